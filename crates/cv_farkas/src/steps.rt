@@ -1,0 +1,120 @@
+//! Steps of proof.
+ghost use Rattle.std.specs.Prelude.{◌≡◌, ◌↔◌, ◌≤◌, ◌<◌, ◌^◌, ℕ, ℤ, pos, ◌≤ℤ◌, IsTrue, IfOk, MatchOption, All, length};
+ghost use Rattle.std.specs.Int.RustNames.{unsigned_abs};
+ghost use Rattle.cv_num.specs.Pairs.{IsCanonical};
+ghost use Rattle.cv_num.specs.Rows.{row_value, wide_value};
+ghost use Rattle.cv_farkas.specs.Covers.{IsInRange, IsCovered};
+ghost use Rattle.cv_farkas.specs.Steps.{Holds, HoldsBy, IsShort};
+ghost use Rattle.cv_farkas.specs.declared.steps.Step.{Step};
+
+use crate::parts::{balances, constant_sum, multiple_less_one};
+use cv_list::List;
+use cv_num::{Row, Wide};
+use std::alloc::{AllocError, Global};
+
+/// A step of proof: d times the goal against a sum of multiples of hypotheses.
+#[derive(Drop)]
+pub struct Step {
+    pub d: u32,
+    /// Ascending hypotheses, counted from 0, each with its multiplier.
+    pub parts: List<(u32, u32)>,
+}
+
+/// Whether a divisor and parts are in their ranges, over so many hypotheses.
+fn is_in_range(count: usize, d: u32, parts: &[(u32, u32)]) -> bool
+    ensures { IsTrue result ↔ IsInRange count d parts.now }
+{
+    if count > 4096 || d < 1 || d > 65535 {
+        return false;
+    }
+    let mut rest = parts;
+    while let [(hypothesis, multiplier), tail @ ..] = rest {
+        if *hypothesis as usize >= count || *multiplier < 1 || *multiplier > 2147483647 {
+            return false;
+        }
+        if let [(next, _), ..] = tail
+            && next <= hypothesis
+        {
+            return false;
+        }
+        rest = tail;
+    }
+    true
+}
+
+/// Whether d * goal + (d - 1) less the sum of the parts is a constant of at least 0.
+fn covers(hyps: &[Row], parts: &[(u32, u32)], pairs: &[(u32, i128)], constant: i128, d: u32) -> bool
+    requires range { IsInRange (length hyps.now) d parts.now }
+    requires canonical { IsCanonical pairs.now }
+    requires pairs_small { All (λ p. unsigned_abs p.1 ≤ 2 ^ 102) pairs.now }
+    requires constant_small { unsigned_abs constant ≤ 2 ^ 102 }
+    ensures { IsTrue result ↔ IsCovered hyps.now (record { pairs = pairs.now; constant = constant }) d parts.now }
+{
+    constant_sum(hyps, parts) <= multiple_less_one(d, constant) && balances(hyps, parts, pairs, d)
+}
+
+/// Whether parts and a divisor prove the goal, or a contradiction, from the hypotheses.
+fn holds(hyps: &[Row], goal: &Wide, d: u32, parts: &[(u32, u32)]) -> bool
+    requires pairs { All (λ p. unsigned_abs p.1 ≤ 2 ^ 102) goal.now.pairs }
+    requires constant { unsigned_abs goal.now.constant ≤ 2 ^ 102 }
+    ensures { IsTrue result ↔ HoldsBy hyps.now goal.now d parts.now }
+{
+    if !is_in_range(hyps.len(), d, parts) {
+        return false;
+    }
+    if covers(hyps, parts, goal.pairs.as_slice(), goal.constant, d) {
+        return true;
+    }
+    d == 1 && covers(hyps, parts, &[], -1, 1)
+}
+
+/// Whether a step proves the goal, or a contradiction, from the hypotheses.
+pub fn step_holds(hyps: &[Row], goal: &Wide, s: &Step) -> bool
+    requires pairs { All (λ p. unsigned_abs p.1 ≤ 2 ^ 102) goal.now.pairs }
+    requires constant { unsigned_abs goal.now.constant ≤ 2 ^ 102 }
+    ensures { IsTrue result ↔ Holds hyps.now goal.now s.now }
+{
+    holds(hyps, goal, s.d, s.parts.as_slice())
+}
+
+/// A step with d = 1.
+fn plain_step(alloc: Global, parts: &[(u32, u32)]) -> Result<Step, AllocError>
+    ensures { IfOk result (λ s. (s.d ≡ 1) × (s.parts ≡ parts.now)) }
+{
+    let items = parts.to_vec(alloc)?;
+    Ok(Step {
+        d: 1,
+        parts: List::from_vec(items),
+    })
+}
+
+/// A short step that holds, where there is one.
+pub fn prove(alloc: Global, hyps: &[Row], goal: &Wide) -> Result<Option<Step>, AllocError>
+    requires pairs { All (λ p. unsigned_abs p.1 ≤ 2 ^ 102) goal.now.pairs }
+    requires constant { unsigned_abs goal.now.constant ≤ 2 ^ 102 }
+    ensures { IfOk result (λ found. MatchOption found ((s : Step) → IsShort s → ¬ (Holds hyps.now goal.now s)) (λ s. IsShort s × Holds hyps.now goal.now s)) }
+{
+    if hyps.len() > 4096 {
+        return Ok(None);
+    }
+    let count = hyps.len() as u32;
+    if holds(hyps, goal, 1, &[]) {
+        return Ok(Some(plain_step(alloc, &[])?));
+    }
+    for first in 0..count {
+        if holds(hyps, goal, 1, &[(first, 1)]) {
+            return Ok(Some(plain_step(alloc, &[(first, 1)])?));
+        }
+        for second in first + 1..count {
+            if holds(hyps, goal, 1, &[(first, 1), (second, 1)]) {
+                return Ok(Some(plain_step(alloc, &[(first, 1), (second, 1)])?));
+            }
+        }
+    }
+    Ok(None)
+}
+
+/// Where a step holds, the goal is at least 0 at each point where all hypotheses are.
+pub fn step_law(hyps: &[Row], goal: &Wide, s: &Step)
+    ensures { Holds hyps.now goal.now s.now → (at : ℕ → ℤ) → All (λ r. pos 0 ≤ℤ row_value at r) hyps.now → pos 0 ≤ℤ wide_value at goal.now }
+{}

@@ -1,0 +1,6 @@
+//! A list that contracts see as the list of its elements: the public types of all layers are made of it.
+#![tactic(auto)]
+
+mod list;
+
+pub use list::{Bytes, List};
