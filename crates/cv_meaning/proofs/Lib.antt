@@ -1,0 +1,6 @@
+pub mod Runs
+pub mod MoreSteps
+pub mod Bounds
+pub mod Worked
+pub mod Accesses
+pub mod Induct

@@ -1,0 +1,10 @@
+pub mod Checked
+pub mod Memory
+pub mod Contract
+pub mod State
+pub mod Step
+pub mod Call
+pub mod Run
+pub mod Clean
+pub mod Laws
+pub mod Worked
