@@ -13,7 +13,7 @@ use cv_num::{Row, Wide};
 use std::alloc::{AllocError, Global};
 
 /// A step of proof: d times the goal against a sum of multiples of hypotheses.
-#[derive(Drop)]
+#[derive(Debug, Drop)]
 pub struct Step {
     pub d: u32,
     /// Ascending hypotheses, counted from 0, each with its multiplier.

@@ -10,7 +10,7 @@ fn halves(rt: HostRuntime) -> Result<(), Fail> {
     // 2x - 1 >= 0 gives x - 1 >= 0 by the divisor 2 alone.
     let hyps = [row(alloc, &[(0, 2)], -1)?];
     let goal_row = row(alloc, &[(0, 1)], -1)?;
-    let nothing = Assign::from_vec(Vec::new(alloc));
+    let nothing = Assign::new(alloc);
     let goal = subst(alloc, &goal_row, &nothing)?;
     let by_two = Step {
         d: 2,
@@ -35,7 +35,7 @@ fn chains(rt: HostRuntime) -> Result<(), Fail> {
         row(alloc, &[(1, 1)], -3)?,
     ];
     let goal_row = row(alloc, &[(0, 1)], -3)?;
-    let nothing = Assign::from_vec(Vec::new(alloc));
+    let nothing = Assign::new(alloc);
     let goal = subst(alloc, &goal_row, &nothing)?;
     let found = prove(alloc, &hyps, &goal)?;
     assert!(rt; found.is_some());
