@@ -1,5 +1,5 @@
 //! Goals that need no step.
-ghost use Rattle.std.specs.Prelude.{◌≡◌, ◌↔◌, ℕ, ℤ, pos, ◌≤ℤ◌, IsTrue, All};
+ghost use Rattle.std.specs.Prelude.{◌≡◌, ◌↔◌, ℕ, ℤ, pos, ◌≤ℤ◌, [], IsTrue, All, Any};
 ghost use Rattle.cv_num.specs.Rows.{as_row, row_value, wide_value};
 ghost use Rattle.cv_farkas.specs.Proof;
 ghost use Rattle.cv_farkas.specs.Steps.{IsDirect};
@@ -20,9 +20,20 @@ pub fn direct(hyps: &[Row], goal: &Wide) -> bool
     ensures direct { IsTrue result ↔ IsDirect hyps.now goal.now }
     ensures computed { result ≡ Proof.direct hyps.now (as_row goal.now) }
 {
-    if goal.constant >= 0 && goal.pairs.as_slice().is_empty() {
-        return true;
-    }
+    is_number(goal) || is_shown(hyps, goal)
+}
+
+/// Whether a goal is a number of at least 0.
+fn is_number(goal: &Wide) -> bool
+    ensures { IsTrue result ↔ ((goal.now.pairs ≡ []) × (pos 0 ≤ℤ goal.now.constant)) }
+{
+    goal.constant >= 0 && goal.pairs.as_slice().is_empty()
+}
+
+/// Whether a hypothesis has the goal's pairs and no greater constant.
+fn is_shown(hyps: &[Row], goal: &Wide) -> bool
+    ensures { IsTrue result ↔ Any (λ h. (h.pairs ≡ goal.now.pairs) × (h.constant ≤ℤ goal.now.constant)) hyps.now }
+{
     for hyp in hyps {
         if shows(hyp, goal) {
             return true;
