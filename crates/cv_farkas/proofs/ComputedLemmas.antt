@@ -1,10 +1,12 @@
 -- The tests of specs/Proof say what the statements of specs/Steps do.
-use Rattle.std.proofs.Common.{◌≡◌, ◌↔◌, ℕ, ◌<◌, ◌≤◌, ◌-◌, ℤ, pos, negsuc, ◌+ℤ◌, ◌*ℤ◌, ◌≤ℤ◌, neg_ℤ, List, [], ◌∷◌, ◌⊎◌, inl, inr, Bool, true, false, refl, sym, ◌∙◌, ap, arith, length, slice_index_or, suc, eqb-true, eq-eqb}
+use Rattle.std.proofs.Common.{◌≡◌, ◌↔◌, ℕ, ◌<◌, ◌≤◌, ◌-◌, ℤ, pos, negsuc, ◌+ℤ◌, ◌*ℤ◌, ◌≤ℤ◌, neg_ℤ, List, [], ◌∷◌, ◌⊎◌, inl, inr, Bool, true, false, refl, sym, subst, ◌∙◌, ap, arith, length, slice_index_or, suc, eqb-true, eq-eqb}
 use Rattle.std.specs.Prelude.{int_le, nat_le, nat_lt, ◌&&◌, ◌||◌, ◌==◌}
 use Rattle.std.specs.Ordering.{int_eq}
 use Rattle.std.specs.List.{All, Any, list_any}
 use Rattle.std.proofs.lemmas.Int.{ints}
 use Rattle.std.proofs.lemmas.Bool.{and_parts, and_from, or_cases, or_left, or_right, leb-true, le-leb, ltb-true, lt-ltb, false≢true}
+use Rattle.std.proofs.lemmas.Bool.Decides.{Decides-int_eq}
+use Rattle.std.proofs.lemmas.List.Folds.{Any-from_list_any, list_any-from_Any}
 use Rattle.std.proofs.lemmas.List.Elements.{All-nil, All-cons, All-head, All-tail, All-weaker}
 use Rattle.cv_num.specs.declared.rows.Row.{Row}
 use Rattle.cv_num.specs.declared.rows.Wide.{Wide}
@@ -17,8 +19,8 @@ use Rattle.cv_num.specs.Coefficients.{same_canonical}
 use Rattle.cv_num.specs.Whole.{minus_one-*}
 use Rattle.cv_farkas.specs.Parts.{sum_of_parts}
 use Rattle.cv_farkas.specs.Covers.{AreParts, IsInRange, IsCovered, minus_one}
-use Rattle.cv_farkas.specs.Steps.{HoldsBy, Holds}
-use Rattle.cv_farkas.specs.Proof.{combination, covers, are_parts, holds}
+use Rattle.cv_farkas.specs.Steps.{HoldsBy, Holds, IsDirect}
+use Rattle.cv_farkas.specs.Proof.{shows, direct, combination, covers, are_parts, holds}
 use Rattle.cv_farkas.specs.declared.steps.Step.{Step}
 
 -- ---- a number of at least 0
@@ -152,3 +154,57 @@ from_holds hyps goal s h =
     either (inr c) =
         or_right (covers hyps (as_row goal) s.d s.parts) ((s.d == 1) && covers hyps (number (negsuc 0)) 1 s.parts)
         (and_from (s.d == 1) (covers hyps (number (negsuc 0)) 1 s.parts) (eq-eqb s.d 1 c.0) (from_covered hyps minus_one 1 s.parts c.1))
+
+-- ---- direct goals
+int_eq-true : (a b : ℤ) → int_eq a b ≡ true → a ≡ b
+int_eq-true a b e = (Decides-int_eq a b).0 e
+
+int_eq-self : (a : ℤ) → int_eq a a ≡ true
+int_eq-self a = (Decides-int_eq a a).1 refl
+
+pair_same : (x y : ℕ × ℤ) → x.0 ≡ y.0 → x.1 ≡ y.1 → x ≡ y
+pair_same x y e f = let P : ℕ → ℤ → ℕ × ℤ = λ a b. (a, b) in ap (λ (a : ℕ). P a x.1) e ∙ ap (λ (b : ℤ). P y.0 b) f
+
+same_pairs-true : (ps qs : List (ℕ × ℤ)) → same_pairs ps qs ≡ true → ps ≡ qs
+same_pairs-true [] [] e = refl
+same_pairs-true [] (q ∷ qs) e = absurd (false≢true e)
+same_pairs-true (p ∷ ps) [] e = absurd (false≢true e)
+same_pairs-true (p ∷ ps) (q ∷ qs) e =
+    let a = and_parts ((p.0 == q.0) && int_eq p.1 q.1) (same_pairs ps qs) e in
+    let b = and_parts (p.0 == q.0) (int_eq p.1 q.1) a.0 in
+    ap (λ (z : ℕ × ℤ). z ∷ ps) (pair_same p q (eqb-true p.0 q.0 b.0) (int_eq-true p.1 q.1 b.1)) ∙ ap (λ (zs : List (ℕ × ℤ)). q ∷ zs) (same_pairs-true ps qs a.1)
+
+same_pairs-self : (ps : List (ℕ × ℤ)) → same_pairs ps ps ≡ true
+same_pairs-self [] = refl
+same_pairs-self (p ∷ ps) =
+    and_from ((p.0 == p.0) && int_eq p.1 p.1) (same_pairs ps ps) (and_from (p.0 == p.0) (int_eq p.1 p.1) (eq-eqb p.0 p.0 refl) (int_eq-self p.1)) (same_pairs-self ps)
+
+same_pairs-equal : (ps qs : List (ℕ × ℤ)) → ps ≡ qs → same_pairs ps qs ≡ true
+same_pairs-equal ps qs e = let P : List (ℕ × ℤ) → Type 0 = λ xs. same_pairs ps xs ≡ true in subst P e (same_pairs-self ps)
+
+shows-true : (goal : Wide) (h : Row) → shows (as_row goal) h ≡ true → (h.pairs ≡ goal.pairs) × (h.constant ≤ℤ goal.constant)
+shows-true goal h e =
+    let a = and_parts (same_pairs h.pairs goal.pairs) (int_le h.constant goal.constant) e in (same_pairs-true h.pairs goal.pairs a.0, grind (arith, ints))
+
+from_shown : (goal : Wide) (h : Row) → (h.pairs ≡ goal.pairs) × (h.constant ≤ℤ goal.constant) → shows (as_row goal) h ≡ true
+from_shown goal h s = and_from (same_pairs h.pairs goal.pairs) (int_le h.constant goal.constant) (same_pairs-equal h.pairs goal.pairs s.0) (grind (arith, ints, s.1))
+
+pub direct_from : (hyps : List Row) (goal : Wide) → direct hyps (as_row goal) ≡ true → IsDirect hyps goal
+direct_from hyps goal e = either (or_cases (is_natural (number_of (as_row goal))) (list_any (shows (as_row goal)) hyps) e)
+  where
+    either : (is_natural (number_of (as_row goal)) ≡ true) ⊎ (list_any (shows (as_row goal)) hyps ≡ true) → IsDirect hyps goal
+    either (inl h) = inl (natural (as_row goal) h)
+    either (inr h) =
+        let a = Any-from_list_any (shows (as_row goal)) hyps h in inr (a.0, a.1, a.2, a.3, shows-true goal a.1 a.4)
+
+pub from_direct : (hyps : List Row) (goal : Wide) → IsDirect hyps goal → direct hyps (as_row goal) ≡ true
+from_direct hyps goal (inl h) = or_left (is_natural (number_of (as_row goal))) (list_any (shows (as_row goal)) hyps) (from_natural (as_row goal) h.0 h.1)
+from_direct hyps goal (inr a) =
+    or_right (is_natural (number_of (as_row goal))) (list_any (shows (as_row goal)) hyps)
+    (list_any-from_Any (shows (as_row goal)) hyps (a.0, a.1, a.2, a.3, from_shown goal a.1 a.4))
+
+-- ---- two tests that say the same answer the same
+pub same_answer : (b c : Bool) (P : Type 0) → ((b ≡ true) ↔ P) → (c ≡ true → P) → (P → c ≡ true) → b ≡ c
+same_answer true c P h f g = sym (g (h.0 refl))
+same_answer false true P h f g = h.1 (f refl)
+same_answer false false P h f g = refl

@@ -1,9 +1,11 @@
 //! Steps of proof over whole numbers.
 #![tactic(auto)]
 
+mod directly;
 mod parts;
 mod steps;
 
+pub use directly::{direct, direct_law};
 pub use steps::{Step, prove, step_holds, step_law};
 
 #[cfg(test)]

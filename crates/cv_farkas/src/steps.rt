@@ -2,8 +2,9 @@
 ghost use Rattle.std.specs.Prelude.{◌≡◌, ◌↔◌, ◌≤◌, ◌<◌, ◌^◌, ℕ, ℤ, pos, ◌≤ℤ◌, IsTrue, IfOk, MatchOption, All, length};
 ghost use Rattle.std.specs.Int.RustNames.{unsigned_abs};
 ghost use Rattle.cv_num.specs.Pairs.{IsCanonical};
-ghost use Rattle.cv_num.specs.Rows.{row_value, wide_value};
+ghost use Rattle.cv_num.specs.Rows.{as_row, row_value, wide_value};
 ghost use Rattle.cv_farkas.specs.Covers.{IsInRange, IsCovered};
+ghost use Rattle.cv_farkas.specs.Proof;
 ghost use Rattle.cv_farkas.specs.Steps.{Holds, HoldsBy, IsShort};
 ghost use Rattle.cv_farkas.specs.declared.steps.Step.{Step};
 
@@ -68,11 +69,12 @@ fn holds(hyps: &[Row], goal: &Wide, d: u32, parts: &[(u32, u32)]) -> bool
     d == 1 && covers(hyps, parts, &[], -1, 1)
 }
 
-/// Whether a step proves the goal, or a contradiction, from the hypotheses.
+/// Whether a step proves the goal, or a contradiction, from the hypotheses. It takes no memory.
 pub fn step_holds(hyps: &[Row], goal: &Wide, s: &Step) -> bool
     requires pairs { All (λ p. unsigned_abs p.1 ≤ 2 ^ 102) goal.now.pairs }
     requires constant { unsigned_abs goal.now.constant ≤ 2 ^ 102 }
-    ensures { IsTrue result ↔ Holds hyps.now goal.now s.now }
+    ensures holds { IsTrue result ↔ Holds hyps.now goal.now s.now }
+    ensures computed { result ≡ Proof.holds hyps.now (as_row goal.now) s.now }
 {
     holds(hyps, goal, s.d, s.parts.as_slice())
 }
