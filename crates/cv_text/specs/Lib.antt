@@ -1,0 +1,7 @@
+pub mod Spelling
+pub mod Tokens
+pub mod Phrase
+pub mod Grammar
+pub mod Clauses
+pub mod Whole
+pub mod Narrow

@@ -1,0 +1,7 @@
+//! CoreC text: its tokens, its grammar and its readers.
+#![tactic(auto)]
+
+mod lexer;
+mod token;
+
+pub use token::{Key, Sign};
