@@ -1,4 +1,5 @@
 use cv_list::List;
+use std::marker::Model;
 
 /// The kinds of error of a run, in the order in which a statement tests them.
 #[derive(Clone, Copy, PartialEq, Eq, Debug)]
@@ -65,8 +66,21 @@ pub struct LimitFault {
     pub count: u64,
 }
 
-/// One ascending list of sites for each holder of a pointer.
+/// One ascending list of sites for each holder of a pointer. Contracts see it as the list of these lists.
 #[derive(Debug, Drop)]
 pub struct PtsTable {
     pub sets: List<List<u32>>,
+}
+
+impl Model for PtsTable {
+    ghost use Rattle.std.specs.Prelude.{List as Items, ℕ};
+    ghost use Rattle.std.specs.Coded.{coded_list, coded_ℕ};
+
+    ghost Value = { Items (Items ℕ) };
+
+    ghost coded = { coded_list (coded_list coded_ℕ) };
+
+    ghost view = { λ table. table.sets };
+
+    ghost inverse = { λ sets. record { sets = sets } };
 }

@@ -1,0 +1,5 @@
+pub mod Certificate
+pub mod Text
+pub mod Reading
+pub mod Tokens
+pub mod Lines

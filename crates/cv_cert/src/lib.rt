@@ -1,0 +1,8 @@
+//! The text of certificates, version 1: read with the first wrong line, and written as the one text.
+#![tactic(auto)]
+
+mod certificate;
+mod fault;
+
+pub use certificate::{Block, Cert, CertCase};
+pub use fault::CertError;
