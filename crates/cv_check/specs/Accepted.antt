@@ -1,0 +1,92 @@
+-- Which texts are certificates of a straight-line program.
+use Rattle.std.specs.Prelude.{◌≡◌, ℕ, ◌+◌, ◌≤◌, ◌<◌, ◌==◌, Bool, true, false, List, [], ◌∷◌, ◌++◌, length, map, codes, Option, Some, None, option_and_then, IsTrue}
+use Rattle.std.specs.List.{All, list_any, list_all}
+use Rattle.cv_core.specs.Names.{stmts_of, locals_of}
+use Rattle.cv_core.specs.declared.program.Program.{Program}
+use Rattle.cv_core.specs.declared.program.Proc.{Proc}
+use Rattle.cv_core.specs.declared.program.ProcBody.{ProcBody}
+use Rattle.cv_core.specs.declared.program.Local.{Local}
+use Rattle.cv_core.specs.declared.program.LocalBody.{LocalBody}
+use Rattle.cv_core.specs.declared.program.LocalBody.TheVariants as local
+use Rattle.cv_core.specs.declared.program.Stmt.{Stmt}
+use Rattle.cv_num.specs.declared.rows.Row.{Row}
+use Rattle.cv_farkas.specs.declared.steps.Step.{Step}
+use Rattle.cv_cert.specs.Certificate.{Certificate, IsCertificate}
+use Rattle.cv_cert.specs.Text.{text_of}
+use Rattle.cv_cert.specs.declared.certificate.Block.{Block}
+use Rattle.cv_cert.specs.declared.certificate.CertCase.{CertCase}
+use Rattle.cv_check.specs.Integer.{has_address, facts, entry, place, Group, Move, Place}
+use Rattle.cv_check.specs.Shown.{Owed, entry_owed, stmts_owed, all_shown, first_rows, later_rows}
+
+-- ---- the parts of a straight-line program
+
+abbrev pub first_body : List Proc → Option ProcBody
+first_body [] = None
+first_body (f ∷ fs) = f.body
+
+-- the statements of the first procedure
+abbrev pub statements : Program → List Stmt
+statements P = stmts_of (first_body P.procs)
+
+-- the size of the first buffer among the locals
+abbrev pub size_among : List Local → ℕ
+size_among [] = 0
+size_among (l ∷ ls) = elim l.body [ local.Buffer n ↦ n | _ ↦ size_among ls ]
+
+abbrev pub buffer_size : Program → ℕ
+buffer_size P = size_among (locals_of (first_body P.procs))
+
+-- ---- the rules
+
+-- one set, of the pointer, that has the buffer's site 1 where some statement points to the buffer
+abbrev pub IsPointsTo : List Stmt → List (List ℕ) → Type 0
+IsPointsTo stmts (s ∷ []) = IsTrue (has_address stmts) → IsTrue (list_any (λ n. n == 1) s)
+IsPointsTo stmts sets = ⊥
+
+-- the rows name the code and the offset of the pointer alone: no variable is out of range, and none is a first zero
+abbrev pub NamesPointer : Row → Type 0
+NamesPointer r = All (λ q. q.0 < 2) r.pairs
+
+-- no list of hypotheses is longer than 4096
+abbrev pub IsSized : List Row → List Row → List Row → Type 0
+IsSized rows facts guard = length rows + length guard + length facts ≤ 4096
+
+abbrev pub IsPlaceSized : List Row → List Row → Place → Type 0
+IsPlaceSized rows facts at = All (λ g. IsSized rows facts g.guard) at.groups × All (λ t. IsSized rows facts t.guard) at.moves
+
+abbrev pub AreSized : ℕ → Bool → List Stmt → List (List Row) → Type 0
+AreSized size target [] rows = Unit {0}
+AreSized size target (s ∷ ss) rows =
+    IsPlaceSized (first_rows rows) (facts size target) (place size target s.form) × AreSized size target ss (later_rows rows)
+
+-- what is to be shown, in the order in which it takes steps
+abbrev pub all_owed : ℕ → List Stmt → List (List Row) → List Owed
+all_owed size stmts rows = entry_owed size (has_address stmts) rows ++ stmts_owed size (has_address stmts) stmts rows
+
+-- a case is valid for these statements over a buffer of this size
+pub record IsCaseValid (size : ℕ) (stmts : List Stmt) (c : CertCase) : Type 0 where
+  pub form : length c.rows ≡ length stmts
+  pub variables : All (All NamesPointer) c.rows
+  pub sized : AreSized size (has_address stmts) stmts c.rows
+  pub shown : all_shown (all_owed size stmts c.rows) c.steps ≡ Some []
+  pub no_picks : c.picks ≡ []
+
+-- one block, named main, of one case
+pub record IsBlockValid (size : ℕ) (stmts : List Stmt) (b : Block) : Type 0 where
+  pub name : b.name ≡ codes "main"
+  pub case : CertCase
+  pub cases : b.cases ≡ case ∷ []
+  pub valid : IsCaseValid size stmts case
+
+pub record IsValid (P : Program) (c : Certificate) : Type 0 where
+  pub points : IsPointsTo (statements P) c.sets
+  pub block : Block
+  pub blocks : c.blocks ≡ block ∷ []
+  pub valid : IsBlockValid (buffer_size P) (statements P) block
+
+-- the bytes are the text of a certificate that is valid for the program
+pub record IsAccepted (P : Program) (text : List ℕ) : Type 0 where
+  pub certificate : Certificate
+  pub is_certificate : IsCertificate certificate
+  pub is_text : text ≡ text_of certificate
+  pub valid : IsValid P certificate

@@ -1,0 +1,2 @@
+//! The checker of certificates of straight-line programs.
+#![tactic(auto)]
