@@ -1,5 +1,5 @@
 use Rattle.std.proofs.Common.{rules}
-use Rattle.cv_farkas.proofs.ComputedLemmas.{same_answer, direct_from, from_direct}
+use Rattle.cv_farkas.specs.Computed.{same_answer, direct_from, from_direct}
 use Rattle.cv_farkas.proofs.directly.direct.Goals as goal
 
 pub returns-then-is_number-clause-direct : goal.returns-then-is_number-clause-direct

@@ -1,4 +1,4 @@
-use Rattle.cv_farkas.proofs.CoverLemmas.{direct_nonneg}
+use Rattle.cv_farkas.specs.Sound.{direct_nonneg}
 use Rattle.cv_farkas.proofs.directly.direct_law.Goals as goal
 
 pub returns : goal.returns

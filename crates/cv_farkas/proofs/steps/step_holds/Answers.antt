@@ -1,5 +1,5 @@
 use Rattle.std.proofs.Common.{rules}
-use Rattle.cv_farkas.proofs.ComputedLemmas.{same_answer, holds_from, from_holds}
+use Rattle.cv_farkas.specs.Computed.{same_answer, holds_from, from_holds}
 use Rattle.cv_farkas.proofs.steps.step_holds.Goals as goal
 
 pub returns-clause-holds : goal.returns-clause-holds

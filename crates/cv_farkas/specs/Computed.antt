@@ -2,12 +2,12 @@
 use Rattle.std.proofs.Common.{◌≡◌, ◌↔◌, ℕ, ◌<◌, ◌≤◌, ◌-◌, ℤ, pos, negsuc, ◌+ℤ◌, ◌*ℤ◌, ◌≤ℤ◌, neg_ℤ, List, [], ◌∷◌, ◌⊎◌, inl, inr, Bool, true, false, refl, sym, subst, ◌∙◌, ap, arith, length, slice_index_or, suc, eqb-true, eq-eqb}
 use Rattle.std.specs.Prelude.{int_le, nat_le, nat_lt, ◌&&◌, ◌||◌, ◌==◌}
 use Rattle.std.specs.Ordering.{int_eq}
-use Rattle.std.specs.List.{All, Any, list_any}
+use Rattle.std.specs.List.{All, list_any}
 use Rattle.std.proofs.lemmas.Int.{ints}
 use Rattle.std.proofs.lemmas.Bool.{and_parts, and_from, or_cases, or_left, or_right, leb-true, le-leb, ltb-true, lt-ltb, false≢true}
 use Rattle.std.proofs.lemmas.Bool.Decides.{Decides-int_eq}
 use Rattle.std.proofs.lemmas.List.Folds.{Any-from_list_any, list_any-from_Any}
-use Rattle.std.proofs.lemmas.List.Elements.{All-nil, All-cons, All-head, All-tail, All-weaker}
+use Rattle.std.proofs.lemmas.List.Elements.{All-nil, All-cons, All-head, All-weaker}
 use Rattle.cv_num.specs.declared.rows.Row.{Row}
 use Rattle.cv_num.specs.declared.rows.Wide.{Wide}
 use Rattle.cv_num.specs.Pairs.{IsCanonical, coefficient_of}
@@ -18,8 +18,8 @@ use Rattle.cv_num.specs.Canonical.{plus-canonical, minus-canonical}
 use Rattle.cv_num.specs.Coefficients.{same_canonical}
 use Rattle.cv_num.specs.Whole.{minus_one-*}
 use Rattle.cv_farkas.specs.Parts.{sum_of_parts}
-use Rattle.cv_farkas.specs.Covers.{AreParts, IsInRange, IsCovered, minus_one}
-use Rattle.cv_farkas.specs.Steps.{HoldsBy, Holds, IsDirect}
+use Rattle.cv_farkas.specs.Covers.{AreParts, IsCovered, minus_one}
+use Rattle.cv_farkas.specs.Steps.{Holds, IsDirect}
 use Rattle.cv_farkas.specs.Proof.{shows, direct, combination, covers, are_parts, holds}
 use Rattle.cv_farkas.specs.declared.steps.Step.{Step}
 
