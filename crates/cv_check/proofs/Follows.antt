@@ -10,8 +10,8 @@ use Rattle.cv_num.specs.declared.rows.Wide.{Wide}
 use Rattle.cv_num.specs.Rows.{row_value, wide_value, as_row}
 use Rattle.cv_farkas.specs.declared.steps.Step.{Step}
 use Rattle.cv_farkas.specs.Proof.{direct, holds}
-use Rattle.cv_farkas.proofs.ComputedLemmas.{holds_from, direct_from}
-use Rattle.cv_farkas.proofs.CoverLemmas.{holds_nonneg, direct_nonneg}
+use Rattle.cv_farkas.specs.Computed.{holds_from, direct_from}
+use Rattle.cv_farkas.specs.Sound.{holds_nonneg, direct_nonneg}
 use Rattle.cv_check.specs.Shown.{Owed, owed, by_step, shown, all_shown, is_plain}
 
 -- P holds of each element, as a pair for each

@@ -1,3 +1,4 @@
 pub mod Follows
+pub mod Sizes
 pub mod Sound
 pub mod Clean

@@ -31,7 +31,10 @@ use Rattle.cv_meaning.specs.Call.{Turn, Errs, Goes, Enters, Leaves, call}
 use Rattle.cv_meaning.specs.Clean.{IsError}
 use Rattle.cv_meaning.specs.Run.{End, Stopped, Error, Returned, Runner, after, at_stmt, turn, one_step, run_within, run}
 use Rattle.cv_meaning.proofs.Accesses.{set-same, shift_is, store_is, get-set, writable_own, buffer}
-use Rattle.cv_check.specs.Integer.{plus, less, over, under, facts, greatest_code, at_nothing, at_buffer, has_byte, wild, when, zero_before, zero_behind, zero_moves, other_at, other_before, other_behind, other_moves, store_moves, place, Group, Move, Place, has_address, is_address}
+use Rattle.cv_check.specs.declared.place.Group.{Group}
+use Rattle.cv_check.specs.declared.place.Move.{Move}
+use Rattle.cv_check.specs.declared.place.Place.{Place}
+use Rattle.cv_check.specs.Integer.{plus, less, over, under, facts, greatest_code, at_nothing, at_buffer, has_byte, wild, when, zero_before, zero_behind, zero_moves, other_at, other_before, other_behind, other_moves, store_moves, place, has_address, is_address}
 use Rattle.cv_check.specs.Shown.{Owed, owed, group_owed, move_owed, place_owed, first_rows, later_rows, stmts_owed, by_step, shown, all_shown, is_plain}
 use Rattle.cv_check.proofs.Follows.{Each, Each-append, each_front, each_back, IsTrueAt, AreTrueAt, Follows, true_append}
 

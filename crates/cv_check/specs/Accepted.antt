@@ -15,7 +15,10 @@ use Rattle.cv_cert.specs.Certificate.{Certificate, IsCertificate}
 use Rattle.cv_cert.specs.Text.{text_of}
 use Rattle.cv_cert.specs.declared.certificate.Block.{Block}
 use Rattle.cv_cert.specs.declared.certificate.CertCase.{CertCase}
-use Rattle.cv_check.specs.Integer.{has_address, facts, entry, place, Group, Move, Place}
+use Rattle.cv_check.specs.declared.place.Group.{Group}
+use Rattle.cv_check.specs.declared.place.Move.{Move}
+use Rattle.cv_check.specs.declared.place.Place.{Place}
+use Rattle.cv_check.specs.Integer.{has_address, facts, entry, place}
 use Rattle.cv_check.specs.Shown.{Owed, entry_owed, stmts_owed, all_shown, first_rows, later_rows}
 
 -- ---- the parts of a straight-line program

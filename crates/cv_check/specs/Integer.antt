@@ -3,6 +3,9 @@
 use Rattle.std.specs.Prelude.{ℕ, Bool, true, false, not, ◌&&◌, ◌==◌, List, [], ◌∷◌, ◌++◌, Option, Some, None, if◌then◌else◌, ℤ, pos, negsuc, ◌+ℤ◌, ◌-ℤ◌}
 use Rattle.std.specs.List.{list_any}
 use Rattle.cv_num.specs.declared.rows.Row.{Row}
+use Rattle.cv_check.specs.declared.place.Group.{Group}
+use Rattle.cv_check.specs.declared.place.Move.{Move}
+use Rattle.cv_check.specs.declared.place.Place.{Place}
 use Rattle.cv_num.specs.Algebra.{number}
 use Rattle.cv_core.specs.Chars.{low_byte}
 use Rattle.cv_core.specs.declared.program.Stmt.{Stmt}
@@ -69,20 +72,6 @@ entry = plus code (pos 1) ∷ less (negsuc 0) code ∷ plus offset (pos 0) ∷ l
 
 -- ---- statements
 
--- where the guard holds, each goal has to be at least 0
-pub record Group : Type 0 where
-  pub guard : List Row
-  pub goals : List Row
-
--- where the guard holds, the assignments may be made
-pub record Move : Type 0 where
-  pub guard : List Row
-  pub assign : List (ℕ × Row)
-
-pub record Place : Type 0 where
-  pub groups : List Group
-  pub moves : List Move
-
 -- code = -1
 abbrev pub at_nothing : List Row
 at_nothing = plus code (pos 1) ∷ less (negsuc 0) code ∷ []
@@ -137,19 +126,38 @@ other_moves size = other_at size ∷ other_before size ∷ other_behind size ∷
 abbrev pub store_moves : ℕ → ℤ → List Move
 store_moves size k = if low_byte k == 0 then zero_moves size else other_moves size
 
--- the groups and the transitions of a statement; each transition leads to the next statement
-abbrev pub place : ℕ → Bool → Form → Place
-place size target (form.Address p a) = record {
+-- p = &b
+abbrev pub address_place : Place
+address_place = record {
   groups = [];
   moves = record { guard = []; assign = (code, number (pos 1)) ∷ (offset, number (pos 0)) ∷ [] } ∷ [];
 }
-place size target (form.Shift p q (operand.Number k)) = record {
+
+-- p = p + k
+abbrev pub shift_place : ℕ → Bool → ℤ → Place
+shift_place size target k = record {
   groups = wild ∷ when target (record { guard = at_buffer size; goals = plus offset k ∷ less (pos size -ℤ k) offset ∷ [] } ∷ []);
   moves = when target (record { guard = at_buffer size; assign = (code, number (pos 1)) ∷ (offset, plus offset k) ∷ [] } ∷ []);
 }
-place size target (form.Store p (operand.Number k)) = record {
+
+-- store p, k
+abbrev pub store_place : ℕ → Bool → ℤ → Place
+store_place size target k = record {
   groups = wild ∷ when target (record { guard = at_buffer size; goals = has_byte size ∷ [] } ∷ []);
   moves = when target (store_moves size k);
 }
-place size target (form.Return e) = record { groups = record { guard = []; goals = [] } ∷ []; moves = [] }
-place size target f = record { groups = []; moves = [] }
+
+-- return k
+abbrev pub return_place : Place
+return_place = record { groups = record { guard = []; goals = [] } ∷ []; moves = [] }
+
+abbrev pub no_place : Place
+no_place = record { groups = []; moves = [] }
+
+-- the groups and the transitions of a statement; each transition leads to the next statement
+abbrev pub place : ℕ → Bool → Form → Place
+place size target (form.Address p a) = address_place
+place size target (form.Shift p q (operand.Number k)) = shift_place size target k
+place size target (form.Store p (operand.Number k)) = store_place size target k
+place size target (form.Return e) = return_place
+place size target f = no_place

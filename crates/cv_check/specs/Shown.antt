@@ -7,7 +7,10 @@ use Rattle.cv_num.specs.Algebra.{substituted, zero_row}
 use Rattle.cv_farkas.specs.declared.steps.Step.{Step}
 use Rattle.cv_farkas.specs.Proof.{direct, holds}
 use Rattle.cv_core.specs.declared.program.Stmt.{Stmt}
-use Rattle.cv_check.specs.Integer.{Group, Move, Place, place, facts, entry, first_zero}
+use Rattle.cv_check.specs.declared.place.Group.{Group}
+use Rattle.cv_check.specs.declared.place.Move.{Move}
+use Rattle.cv_check.specs.declared.place.Place.{Place}
+use Rattle.cv_check.specs.Integer.{place, facts, entry, first_zero}
 
 -- the goal has to follow from the hypotheses
 pub record Owed : Type 0 where

@@ -1,2 +1,7 @@
-//! The checker of certificates of straight-line programs.
+//! The checker of certificates of straight-line programs: whether a text is a certificate that is valid
+//! for a program, which then is clean.
 #![tactic(auto)]
+
+mod place;
+mod program;
+mod rows;
