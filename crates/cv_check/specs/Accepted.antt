@@ -1,5 +1,5 @@
 -- Which texts are certificates of a straight-line program.
-use Rattle.std.specs.Prelude.{◌≡◌, ℕ, ◌+◌, ◌≤◌, ◌<◌, ◌==◌, Bool, true, false, List, [], ◌∷◌, ◌++◌, length, map, codes, Option, Some, None, option_and_then, IsTrue}
+use Rattle.std.specs.Prelude.{◌≡◌, ℕ, ◌+◌, ◌≤◌, ◌<◌, ◌==◌, ◌&&◌, nat_le, Bool, true, false, List, [], ◌∷◌, ◌++◌, length, map, codes, Option, Some, None, option_and_then, IsTrue}
 use Rattle.std.specs.List.{All, list_any, list_all}
 use Rattle.cv_core.specs.Names.{stmts_of, locals_of}
 use Rattle.cv_core.specs.declared.program.Program.{Program}
@@ -51,16 +51,16 @@ abbrev pub NamesPointer : Row → Type 0
 NamesPointer r = All (λ q. q.0 < 2) r.pairs
 
 -- no list of hypotheses is longer than 4096
-abbrev pub IsSized : List Row → List Row → List Row → Type 0
-IsSized rows facts guard = length rows + length guard + length facts ≤ 4096
+abbrev pub is_sized : List Row → List Row → List Row → Bool
+is_sized rows facts guard = nat_le (length rows + length guard + length facts) 4096
 
-abbrev pub IsPlaceSized : List Row → List Row → Place → Type 0
-IsPlaceSized rows facts at = All (λ g. IsSized rows facts g.guard) at.groups × All (λ t. IsSized rows facts t.guard) at.moves
+abbrev pub place_sized : List Row → List Row → Place → Bool
+place_sized rows facts at = list_all (λ g. is_sized rows facts g.guard) at.groups && list_all (λ t. is_sized rows facts t.guard) at.moves
 
-abbrev pub AreSized : ℕ → Bool → List Stmt → List (List Row) → Type 0
-AreSized size target [] rows = Unit {0}
-AreSized size target (s ∷ ss) rows =
-    IsPlaceSized (first_rows rows) (facts size target) (place size target s.form) × AreSized size target ss (later_rows rows)
+abbrev pub all_sized : ℕ → Bool → List Stmt → List (List Row) → Bool
+all_sized size target [] rows = true
+all_sized size target (s ∷ ss) rows =
+    place_sized (first_rows rows) (facts size target) (place size target s.form) && all_sized size target ss (later_rows rows)
 
 -- what is to be shown, in the order in which it takes steps
 abbrev pub all_owed : ℕ → List Stmt → List (List Row) → List Owed
@@ -70,7 +70,7 @@ all_owed size stmts rows = entry_owed size (has_address stmts) rows ++ stmts_owe
 pub record IsCaseValid (size : ℕ) (stmts : List Stmt) (c : CertCase) : Type 0 where
   pub form : length c.rows ≡ length stmts
   pub variables : All (All NamesPointer) c.rows
-  pub sized : AreSized size (has_address stmts) stmts c.rows
+  pub sized : IsTrue (all_sized size (has_address stmts) stmts c.rows)
   pub shown : all_shown (all_owed size stmts c.rows) c.steps ≡ Some []
   pub no_picks : c.picks ≡ []
 

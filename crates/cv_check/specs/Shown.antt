@@ -56,11 +56,13 @@ entry_owed size target rows = map (owed (entry ++ facts size target)) (first_row
 abbrev pub is_free : Row → Bool
 is_free r = list_all (λ q. not (q.0 == first_zero)) r.pairs
 
--- divisor 1, one or two parts with multiplier 1, and no hypothesis that names the first zero
+-- multiplier 1, and no hypothesis that names the first zero
+abbrev pub are_plain : List Row → List (ℕ × ℕ) → Bool
+are_plain hyps parts = list_all (λ q. (q.1 == 1) && is_free (slice_index_or hyps q.0 zero_row)) parts
+
+-- divisor 1, and one or two plain parts
 abbrev pub is_plain : List Row → Step → Bool
-is_plain hyps s =
-    (s.d == 1) && nat_le 1 (length s.parts) && nat_le (length s.parts) 2
-    && list_all (λ q. (q.1 == 1) && is_free (slice_index_or hyps q.0 zero_row)) s.parts
+is_plain hyps s = (s.d == 1) && nat_le 1 (length s.parts) && nat_le (length s.parts) 2 && are_plain hyps s.parts
 
 -- the steps that are left where the first of them is plain and shows the goal
 abbrev pub by_step : List Row → Row → List Step → Option (List Step)

@@ -5,3 +5,5 @@
 mod place;
 mod program;
 mod rows;
+mod shown;
+mod walk;

@@ -1,5 +1,6 @@
 //! The integer program: the groups and the transitions of a statement.
-ghost use Rattle.std.specs.Prelude.{◌≡◌, ◌==◌, ◌∷◌, [], IfOk, pos, ◌-ℤ◌};
+ghost use Rattle.std.specs.Prelude.{◌≡◌, ◌==◌, ◌∷◌, [], All, IfOk, pos, ◌-ℤ◌};
+ghost use Rattle.cv_num.specs.Assigned.{IsSmallAssign};
 ghost use Rattle.cv_num.specs.Algebra.{number as number_of};
 ghost use Rattle.cv_check.specs.Integer.{place as place_at, facts as facts_at, entry as entry_of, at_nothing as at_nothing_of, at_buffer as at_buffer_of, has_byte as has_byte_of, wild as wild_of, stored as stored_of, zero_before as zero_before_of, zero_behind as zero_behind_of, other_at as other_at_of, other_before as other_before_of, other_behind as other_behind_of, zero_moves as zero_moves_of, other_moves as other_moves_of, store_moves as store_moves_of, plus as plus_of, less as less_of, address_place as address_place_of, return_place as return_place_of, no_place as no_place_of, shift_place as shift_place_of, store_place as store_place_of};
 ghost use Rattle.cv_core.specs.Chars.{low_byte};
@@ -91,8 +92,10 @@ fn wild(alloc: Global) -> Result<Group, AllocError>
 }
 
 /// `p = &b`.
+#[tactic(auto, using(crate::proofs::Small::address_small))]
 fn address_place(alloc: Global) -> Result<Place, AllocError>
-    ensures { IfOk result (λ at. at ≡ address_place_of) }
+    ensures value { IfOk result (λ at. at ≡ address_place_of) }
+    ensures small { IfOk result (λ at. All (λ t. IsSmallAssign t.assign) at.moves) }
 {
     let items = vec![in alloc; (CODE, number(alloc, 1)?), (OFFSET, number(alloc, 0)?)]?;
     let assign = Assign::from_vec(items).ok_or(AllocError)?;
@@ -133,8 +136,10 @@ fn shift_move(alloc: Global, size: u32, k: i32) -> Result<Move, AllocError>
 }
 
 /// `p = p + k`.
+#[tactic(auto, using(crate::proofs::Small::shift_small))]
 fn shift_place(alloc: Global, size: u32, target: bool, k: i32) -> Result<Place, AllocError>
-    ensures { IfOk result (λ at. at ≡ shift_place_of size target k) }
+    ensures value { IfOk result (λ at. at ≡ shift_place_of size target k) }
+    ensures small { IfOk result (λ at. All (λ t. IsSmallAssign t.assign) at.moves) }
 {
     let nothing = wild(alloc)?;
     if !target {
@@ -240,8 +245,10 @@ fn store_moves(alloc: Global, size: u32, k: i32) -> Result<Vec<Move>, AllocError
 }
 
 /// `store p, k`.
+#[tactic(auto, using(crate::proofs::Small::store_small))]
 fn store_place(alloc: Global, size: u32, target: bool, k: i32) -> Result<Place, AllocError>
-    ensures { IfOk result (λ at. at ≡ store_place_of size target k) }
+    ensures value { IfOk result (λ at. at ≡ store_place_of size target k) }
+    ensures small { IfOk result (λ at. All (λ t. IsSmallAssign t.assign) at.moves) }
 {
     let nothing = wild(alloc)?;
     if !target {
@@ -292,7 +299,8 @@ pub(crate) fn statement_place(
     target: bool,
     form: &Form,
 ) -> Result<Place, AllocError>
-    ensures { IfOk result (λ at. at ≡ place_at size target form.now) }
+    ensures value { IfOk result (λ at. at ≡ place_at size target form.now) }
+    ensures small { IfOk result (λ at. All (λ t. IsSmallAssign t.assign) at.moves) }
 {
     match form {
         Form::Address { .. } => address_place(alloc),
