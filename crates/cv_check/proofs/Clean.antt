@@ -1,10 +1,10 @@
 -- An accepted straight-line program is clean.
 use Rattle.std.proofs.Common.{◌≡◌, ◌≢◌, refl, sym, ap, subst, ◌∙◌, ℕ, zero, suc, ◌+◌, ◌≤◌, ◌<◌, ◌⊎◌, inl, inr, Bool, true, false, ◌||◌, List, [], ◌∷◌, ◌++◌, length, map, Option, Some, None, arith, ℤ, pos, negsuc, IsTrue}
 use Rattle.std.proofs.lemmas.Int.{ints}
-use Rattle.std.proofs.lemmas.List.Elements.{All-head, All-tail}
 use Rattle.std.proofs.Math.Bool.{or-true}
 use Rattle.std.specs.Prelude.{slice_get, codes}
-use Rattle.std.specs.List.{All, list_any}
+use Rattle.std.specs.List.{list_any, list_all}
+use Rattle.std.proofs.lemmas.Bool.{and_parts}
 use Rattle.cv_num.specs.declared.rows.Row.{Row}
 use Rattle.cv_farkas.specs.declared.steps.Step.{Step}
 use Rattle.cv_core.specs.Grammar.{IsWritten}
@@ -30,13 +30,10 @@ use Rattle.cv_meaning.proofs.Accesses.{same_name, get-last, length-fresh_bytes}
 use Rattle.cv_text.specs.Narrow.{IsNarrow, IsMove, IsReturn, IsStraight, main_alone, no_contract, buffer_local, pointer_local}
 use Rattle.cv_check.specs.Integer.{facts, place, has_address, is_address, entry}
 use Rattle.cv_check.specs.Shown.{Owed, owed, place_owed, first_rows, later_rows, stmts_owed, entry_owed, all_shown}
-use Rattle.cv_check.specs.Accepted.{NamesPointer, IsCaseValid, IsValid, IsAccepted, statements, buffer_size, all_owed}
+use Rattle.cv_check.specs.Accepted.{names_pointer, IsCaseValid, IsValid, IsAccepted, statements, buffer_size, all_owed}
 use Rattle.cv_check.proofs.Follows.{Each, each_front, each_back, AreTrueAt, Follows, all_follow, true_append}
-use Rattle.cv_check.proofs.Sound.{Holds, IsFrame, IsFineTurn, IsFree, point, rows_at, PointsAt, Owes, fine_address, fine_shift, fine_store, fine_return, facts_true}
-
-each_from_all : {X : Type 0} (P : X → Type 0) (xs : List X) → All P xs → Each P xs
-each_from_all P [] h = tt
-each_from_all P (x ∷ xs) h = (All-head P x xs h, each_from_all P xs (All-tail P x xs h))
+use Rattle.cv_check.proofs.Named.{IsFree, are_free}
+use Rattle.cv_check.proofs.Sound.{Holds, IsFrame, IsFineTurn, point, rows_at, PointsAt, Owes, fine_address, fine_shift, fine_store, fine_return, facts_true}
 
 -- ---- what is known of a statement by its number
 
@@ -64,15 +61,15 @@ owed_at size target (s ∷ ss) rows (suc k) st h is =
     owed_at size target ss (later_rows rows) k st
         (each_back Follows (place_owed (first_rows rows) (first_rows (later_rows rows)) (facts size target) (place size target s.form)) (stmts_owed size target ss (later_rows rows)) h) is
 
-free_rows : (rs : List Row) → All NamesPointer rs → Each IsFree rs
-free_rows [] h = tt
-free_rows (r ∷ rs) h = (each_from_all (λ q. q.0 < 2) r.pairs (All-head NamesPointer r rs h), free_rows rs (All-tail NamesPointer r rs h))
-
-free_at : (rows : List (List Row)) → All (All NamesPointer) rows → (k : ℕ) → Each IsFree (rows_at rows k)
+free_at : (rows : List (List Row)) → list_all (list_all names_pointer) rows ≡ true → (k : ℕ) → Each IsFree (rows_at rows k)
 free_at [] h zero = tt
 free_at [] h (suc k) = free_at [] h k
-free_at (rs ∷ rows) h zero = free_rows rs (All-head (All NamesPointer) rs rows h)
-free_at (rs ∷ rows) h (suc k) = free_at rows (All-tail (All NamesPointer) rs rows h) k
+free_at (rs ∷ rows) h zero = are_free rs (and_parts (list_all names_pointer rs) (list_all (list_all names_pointer) rows) h).0
+free_at (rs ∷ rows) h (suc k) = free_at rows (and_parts (list_all names_pointer rs) (list_all (list_all names_pointer) rows) h).1 k
+
+is_true : (b : Bool) → IsTrue b → b ≡ true
+is_true true h = refl
+is_true false h = absurd h
 
 goals_true : (hyps : List Row) (at : ℕ → ℤ) → AreTrueAt at hyps → (rs : List Row) → Each Follows (map (owed hyps) rs) → AreTrueAt at rs
 goals_true hyps at h [] k = tt
@@ -161,7 +158,7 @@ module _ (line : ℕ) (b p : Name) (size : ℕ) (lt : size < 2147483648) (stmts 
         let P : Program = main_alone line (buffer_local b size ∷ pointer_local p ∷ []) stmts in
         let g : Frame = entered P 0 (main_proc line (buffer_local b size ∷ pointer_local p ∷ []) stmts) args m in
         let nar : IsFrame b p size lt target c.rows g = record { has_buffer = rw (same_name b) refl; gives = refl; literals = omega arith } in
-        never_errs b p size lt target c.rows g nar P (free_at c.rows valid.variables) straight refl rest_owed n 0 _ n
+        never_errs b p size lt target c.rows g nar P (free_at c.rows (is_true _ valid.variables)) straight refl rest_owed n 0 _ n
             (record { site = 1; bytes = fresh_bytes size w; is = get-last m _; long = length-fresh_bytes size w; c = negsuc 0; o = 0; le = omega arith; at = inl refl; true_rows = first_true }) e;
   }
 
@@ -172,7 +169,7 @@ module _ (line : ℕ) (b p : Name) (size : ℕ) (lt : size < 2147483648) (stmts 
         let P : Program = main_alone line (pointer_local p ∷ buffer_local b size ∷ []) stmts in
         let g : Frame = entered P 0 (main_proc line (pointer_local p ∷ buffer_local b size ∷ []) stmts) args m in
         let nar : IsFrame b p size lt target c.rows g = record { has_buffer = rw (same_name b) refl; gives = refl; literals = omega arith } in
-        never_errs b p size lt target c.rows g nar P (free_at c.rows valid.variables) straight refl rest_owed n 0 _ n
+        never_errs b p size lt target c.rows g nar P (free_at c.rows (is_true _ valid.variables)) straight refl rest_owed n 0 _ n
             (record { site = 1; bytes = fresh_bytes size w; is = get-last m _; long = length-fresh_bytes size w; c = negsuc 0; o = 0; le = omega arith; at = inl refl; true_rows = first_true }) e;
   }
 

@@ -36,6 +36,7 @@ use Rattle.cv_check.specs.declared.place.Move.{Move}
 use Rattle.cv_check.specs.declared.place.Place.{Place}
 use Rattle.cv_check.specs.Integer.{plus, less, over, under, facts, greatest_code, at_nothing, at_buffer, has_byte, wild, when, zero_before, zero_behind, zero_moves, other_at, other_before, other_behind, other_moves, store_moves, place, has_address, is_address}
 use Rattle.cv_check.specs.Shown.{Owed, owed, group_owed, move_owed, place_owed, first_rows, later_rows, stmts_owed, by_step, shown, all_shown, is_plain}
+use Rattle.cv_check.proofs.Named.{IsFree}
 use Rattle.cv_check.proofs.Follows.{Each, Each-append, each_front, each_back, IsTrueAt, AreTrueAt, Follows, true_append}
 
 -- ---- points of the three variables
@@ -45,10 +46,6 @@ abbrev pub point : ℤ → ℤ → ℤ → ℕ → ℤ
 point c o n zero = c
 point c o n (suc zero) = o
 point c o n (suc (suc v)) = n
-
--- rows that name the code and the offset alone
-abbrev pub IsFree : Row → Type 0
-IsFree r = Each (λ q. q.0 < 2) r.pairs
 
 same_at : (p q : ℕ → ℤ) → p 0 ≡ q 0 → p 1 ≡ q 1 → (v : ℕ) → v < 2 → p v ≡ q v
 same_at p q a b zero h = a

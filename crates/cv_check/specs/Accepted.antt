@@ -1,6 +1,6 @@
 -- Which texts are certificates of a straight-line program.
-use Rattle.std.specs.Prelude.{◌≡◌, ℕ, ◌+◌, ◌≤◌, ◌<◌, ◌==◌, ◌&&◌, nat_le, Bool, true, false, List, [], ◌∷◌, ◌++◌, length, map, codes, Option, Some, None, option_and_then, IsTrue}
-use Rattle.std.specs.List.{All, list_any, list_all}
+use Rattle.std.specs.Prelude.{◌≡◌, ℕ, ◌+◌, ◌≤◌, ◌<◌, ◌==◌, ◌&&◌, ◌||◌, not, nat_le, nat_lt, Bool, true, false, List, [], ◌∷◌, ◌++◌, length, map, codes, Option, Some, None, option_and_then, IsTrue}
+use Rattle.std.specs.List.{list_any, list_all}
 use Rattle.cv_core.specs.Names.{stmts_of, locals_of}
 use Rattle.cv_core.specs.declared.program.Program.{Program}
 use Rattle.cv_core.specs.declared.program.Proc.{Proc}
@@ -42,13 +42,13 @@ buffer_size P = size_among (locals_of (first_body P.procs))
 -- ---- the rules
 
 -- one set, of the pointer, that has the buffer's site 1 where some statement points to the buffer
-abbrev pub IsPointsTo : List Stmt → List (List ℕ) → Type 0
-IsPointsTo stmts (s ∷ []) = IsTrue (has_address stmts) → IsTrue (list_any (λ n. n == 1) s)
-IsPointsTo stmts sets = ⊥
+abbrev pub points_to : List Stmt → List (List ℕ) → Bool
+points_to stmts (s ∷ []) = not (has_address stmts) || list_any (λ n. n == 1) s
+points_to stmts sets = false
 
--- the rows name the code and the offset of the pointer alone: no variable is out of range, and none is a first zero
-abbrev pub NamesPointer : Row → Type 0
-NamesPointer r = All (λ q. q.0 < 2) r.pairs
+-- the row names at most the code and the offset of the pointer: no variable is out of range, and none is a first zero
+abbrev pub names_pointer : Row → Bool
+names_pointer r = list_all (λ q. nat_lt q.0 2) r.pairs && nat_le (length r.pairs) 2
 
 -- no list of hypotheses is longer than 4096
 abbrev pub is_sized : List Row → List Row → List Row → Bool
@@ -69,7 +69,7 @@ all_owed size stmts rows = entry_owed size (has_address stmts) rows ++ stmts_owe
 -- a case is valid for these statements over a buffer of this size
 pub record IsCaseValid (size : ℕ) (stmts : List Stmt) (c : CertCase) : Type 0 where
   pub form : length c.rows ≡ length stmts
-  pub variables : All (All NamesPointer) c.rows
+  pub variables : IsTrue (list_all (list_all names_pointer) c.rows)
   pub sized : IsTrue (all_sized size (has_address stmts) stmts c.rows)
   pub shown : all_shown (all_owed size stmts c.rows) c.steps ≡ Some []
   pub no_picks : c.picks ≡ []
@@ -81,11 +81,15 @@ pub record IsBlockValid (size : ℕ) (stmts : List Stmt) (b : Block) : Type 0 wh
   pub cases : b.cases ≡ case ∷ []
   pub valid : IsCaseValid size stmts case
 
-pub record IsValid (P : Program) (c : Certificate) : Type 0 where
-  pub points : IsPointsTo (statements P) c.sets
+-- a certificate is valid for these statements over a buffer of this size
+pub record IsCertificateValid (size : ℕ) (stmts : List Stmt) (c : Certificate) : Type 0 where
+  pub points : IsTrue (points_to stmts c.sets)
   pub block : Block
   pub blocks : c.blocks ≡ block ∷ []
-  pub valid : IsBlockValid (buffer_size P) (statements P) block
+  pub valid : IsBlockValid size stmts block
+
+abbrev pub IsValid : Program → Certificate → Type 0
+IsValid P c = IsCertificateValid (buffer_size P) (statements P) c
 
 -- the bytes are the text of a certificate that is valid for the program
 pub record IsAccepted (P : Program) (text : List ℕ) : Type 0 where

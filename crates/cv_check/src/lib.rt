@@ -2,6 +2,7 @@
 //! for a program, which then is clean.
 #![tactic(auto)]
 
+mod check;
 mod place;
 mod program;
 mod rows;

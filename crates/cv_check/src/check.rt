@@ -1,0 +1,91 @@
+//! The rules of a valid certificate.
+ghost use Rattle.std.specs.Prelude.{◌≡◌, ◌==◌, ◌↔◌, ◌≤◌, nat_lt, ◌<◌, [], ◌∷◌, length, All, IfOk, IsTrue, MatchOption, Some, None};
+ghost use Rattle.std.specs.List.{list_all, list_any};
+ghost use Rattle.cv_check.specs.Accepted.{points_to as points_to_of, names_pointer as names_pointer_of, IsCaseValid, IsBlockValid, IsCertificateValid, all_owed};
+ghost use Rattle.cv_check.specs.Integer.{has_address as has_address_of};
+ghost use Rattle.cv_check.specs.Shown.{all_shown, entry_owed};
+
+use crate::place::{entry, facts};
+use crate::program::has_address;
+use crate::rows::hypotheses;
+use crate::shown::goals_shown;
+use crate::walk::{first_rows, statements_shown, statements_sized};
+use cv_cert::{Block, Cert, CertCase};
+use cv_core::{List, Stmt};
+use cv_farkas::Step;
+use cv_num::Row;
+use std::alloc::{AllocError, Global};
+
+/// Whether the variables are the code and the offset of the pointer.
+fn are_of_pointer(pairs: &[(u32, i64)]) -> bool
+    ensures { result ≡ list_all (λ q. nat_lt q.0 2) pairs.now }
+{
+    pairs.iter().all(|pair| pair.0 < 2)
+}
+
+/// Whether the row names at most the code and the offset of the pointer.
+fn names_pointer(r: &Row) -> bool
+    ensures { result ≡ names_pointer_of r.now }
+{
+    let pairs = r.pairs.as_slice();
+    let named = are_of_pointer(pairs);
+    let few = pairs.len() <= 2;
+    named && few
+}
+
+fn rows_name_pointer(rows: &[Row]) -> bool
+    ensures { result ≡ list_all names_pointer_of rows.now }
+{
+    rows.iter().all(|r| names_pointer(r))
+}
+
+/// Whether the rows of all statements name at most the code and the offset of the pointer.
+fn all_name_pointer(rows: &[List<Row>]) -> bool
+    ensures { result ≡ list_all (list_all names_pointer_of) rows.now }
+{
+    rows.iter()
+        .all(|of_statement| rows_name_pointer(of_statement.as_slice()))
+}
+
+/// Whether the set has the site of the buffer.
+fn has_buffer(set: &[u32]) -> bool
+    ensures { result ≡ list_any (λ n. n == 1) set.now }
+{
+    set.iter().any(|site| *site == 1)
+}
+
+/// Whether the family has one set, and it has the buffer's site where a statement points to the buffer.
+fn points_to(stmts: &[Stmt], sets: &[List<u32>]) -> bool
+    ensures { result ≡ points_to_of stmts.now sets.now }
+{
+    match sets {
+        [only] => {
+            let has = has_buffer(only.as_slice());
+            !has_address(stmts) || has
+        },
+        _ => false,
+    }
+}
+
+/// The steps that are left where the entry and all statements are shown.
+fn all_steps<'a>(
+    alloc: Global,
+    size: u32,
+    stmts: &[Stmt],
+    rows: &[List<Row>],
+    steps: &'a [Step],
+) -> Result<Option<&'a [Step]>, AllocError>
+    requires { All (λ rs. All (λ r. length r.pairs ≤ 200) rs) rows.now }
+    ensures { IfOk result (λ found. MatchOption found (all_shown (all_owed size stmts.now rows.now) steps.now ≡ None) (λ left. all_shown (all_owed size stmts.now rows.now) steps.now ≡ Some left.now)) }
+{
+    let target = has_address(stmts);
+    let facts = facts(alloc, size, target)?;
+    let hyps = hypotheses(alloc, &entry(alloc)?, &[], &facts)?;
+    let Some(left) = goals_shown(alloc, &hyps, first_rows(rows), steps)? else {
+        return Ok(None);
+    };
+    match statements_shown(alloc, size, target, stmts, rows, &facts, left)? {
+        None => Ok(None),
+        Some(last) => Ok(Some(last)),
+    }
+}
