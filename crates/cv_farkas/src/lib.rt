@@ -2,6 +2,7 @@
 #![tactic(auto)]
 
 mod directly;
+mod order;
 mod parts;
 mod steps;
 
