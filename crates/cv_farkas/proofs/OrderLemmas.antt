@@ -1,10 +1,14 @@
 -- The order of rows is a strict order in which any two compare, and sums keep it.
-use Rattle.std.proofs.Common.{◌≡◌, ◌≢◌, ℕ, ◌<◌, ◌≤◌, ◌^◌, ℤ, pos, negsuc, ◌+ℤ◌, ◌*ℤ◌, ◌<ℤ◌, neg_ℤ, List, [], ◌∷◌, ◌++◌, ◌⊎◌, inl, inr, Bool, true, false, refl, sym, subst, ◌∙◌, ap, arith, zero, suc}
+use Rattle.std.proofs.Common.{◌≡◌, ◌≢◌, ℕ, ◌<◌, ◌≤◌, ◌^◌, ℤ, pos, negsuc, ◌+ℤ◌, ◌*ℤ◌, ◌<ℤ◌, ◌≤ℤ◌, neg_ℤ, List, [], ◌∷◌, ◌++◌, ◌⊎◌, inl, inr, Bool, true, false, refl, sym, subst, ◌∙◌, ap, arith, zero, suc, nat_eq, eqb-true, if◌then◌else◌}
 use Rattle.std.specs.Prelude.{int_lt}
+use Rattle.std.specs.Ordering.{int_cmp, is_lt, MatchOrdering}
+use Rattle.std.proofs.lemmas.Cmp.{int_ranked}
+use Rattle.std.specs.declared.cmp.Ordering.{Ordering}
+use Rattle.std.specs.declared.cmp.Ordering.TheVariants.{Less, Equal, Greater}
 use Rattle.std.specs.Cmp.{IsStrictWeakOrder}
 use Rattle.std.specs.List.{All}
 use Rattle.std.proofs.lemmas.Int.{ints}
-use Rattle.std.proofs.lemmas.Bool.{false≢true, cases_order, false_from_ne_true, both_ways}
+use Rattle.std.proofs.lemmas.Bool.{false≢true, cases_order, cases_eq, eqb-false, false_from_ne_true, both_ways}
 use Rattle.std.proofs.Math.IntN.{*ℤ-zero}
 use Rattle.cv_num.specs.declared.rows.Row.{Row}
 use Rattle.cv_num.specs.Pairs.{IsCanonical, coefficient_of}
@@ -13,7 +17,7 @@ use Rattle.cv_num.specs.Algebra.{add_pairs, times_pairs}
 use Rattle.cv_num.specs.Values.{add_pairs-coefficient, times_pairs-coefficient}
 use Rattle.cv_num.specs.Canonical.{add_pairs-canonical}
 use Rattle.cv_num.specs.Coefficients.{coefficient_of-head, coefficient_of-under, coefficient_of-append}
-use Rattle.cv_farkas.specs.Order.{IsBelow, entries, is_rising, row_lt}
+use Rattle.cv_farkas.specs.Order.{IsBelow, IsCompared, entries, is_rising, row_lt}
 
 -- ---- functions
 pub below-antisym : (f g : ℕ → ℤ) → IsBelow f g → IsBelow g f → ⊥
@@ -50,6 +54,19 @@ below-shift f g p q e b =
       less = (let k : f b.at +ℤ q b.at ≡ g b.at +ℤ p b.at = e b.at in omega (arith, ints));
       same = λ u l. (let k : f u +ℤ q u ≡ g u +ℤ p u = e u in let s : f u ≡ g u = b.same u l in omega (arith, ints));
     }
+
+-- the same, with the variable in a range
+pub shift_within : (f g p q : ℕ → ℤ) (n : ℕ) → ((u : ℕ) → f u +ℤ q u ≡ g u +ℤ p u) → (b : IsBelow f g) × (b.at < n) → (b : IsBelow p q) × (b.at < n)
+shift_within f g p q n e s =
+    let m : f s.0.at <ℤ g s.0.at = s.0.less in
+    (
+      record {
+        at = s.0.at;
+        less = (let k : f s.0.at +ℤ q s.0.at ≡ g s.0.at +ℤ p s.0.at = e s.0.at in omega (arith, ints));
+        same = λ u l. (let k : f u +ℤ q u ≡ g u +ℤ p u = e u in let s : f u ≡ g u = s.0.same u l in omega (arith, ints));
+      },
+      s.1,
+    )
 
 -- ---- rising lists
 abbrev zeros : ℕ → ℤ
@@ -144,3 +161,88 @@ row_order = record {
     chain x y z e k l (inr (inl h)) =
         both_ways (row_lt y z) k (below-lt y z (below-trans (coefficient_of (entries y)) (coefficient_of (entries x)) (coefficient_of (entries z)) h l))
     chain x y z e k l (inr (inr h)) = both_ways (row_lt y z) k (below-lt y z (below-same (coefficient_of (entries x)) (coefficient_of (entries y)) (coefficient_of (entries z)) h l))
+
+-- ---- the order by coefficients and constants
+other_entry : (r : Row) (u : ℕ) → u ≢ 2 ^ 32 → coefficient_of (entries r) u ≡ coefficient_of r.pairs u
+other_entry r u apart = coefficient_of-append r.pairs ((2 ^ 32, r.constant) ∷ []) u ∙ at (nat_eq (2 ^ 32) u) (coefficient_of r.pairs u) refl
+  where
+    at : (t : Bool) (c : ℤ) → nat_eq (2 ^ 32) u ≡ t → c +ℤ ((if t then r.constant else pos 0) +ℤ pos 0) ≡ c
+    at true c e = absurd (apart (sym (eqb-true (2 ^ 32) u e)))
+    at false c e = omega (arith, ints)
+
+last_entry : (r : Row) (u : ℕ) → u ≡ 2 ^ 32 → coefficient_of (entries r) u ≡ coefficient_of r.pairs u +ℤ r.constant
+last_entry r u same = coefficient_of-append r.pairs ((2 ^ 32, r.constant) ∷ []) u ∙ at (nat_eq (2 ^ 32) u) (coefficient_of r.pairs u) refl
+  where
+    at : (t : Bool) (c : ℤ) → nat_eq (2 ^ 32) u ≡ t → c +ℤ ((if t then r.constant else pos 0) +ℤ pos 0) ≡ c +ℤ r.constant
+    at true c e = omega (arith, ints)
+    at false c e = absurd (eqb-false (2 ^ 32) u e (sym same))
+
+-- the coefficients decide
+pub pairs_before : (a b : Row) → (s : IsBelow (coefficient_of a.pairs) (coefficient_of b.pairs)) × (s.at < 2 ^ 32) → row_lt a b ≡ true
+pairs_before a b s =
+    let m : coefficient_of a.pairs s.0.at <ℤ coefficient_of b.pairs s.0.at = s.0.less in
+    below-lt a b (record {
+      at = s.0.at;
+      less = rw (other_entry a s.0.at (under s.0.at s.1), other_entry b s.0.at (under s.0.at s.1)) m;
+      same = λ u l. other_entry a u (under u (omega arith)) ∙ (s.0.same u l ∙ sym (other_entry b u (under u (omega arith))));
+    })
+  where
+    under : (u : ℕ) → u < 2 ^ 32 → u ≢ 2 ^ 32
+    under u l e = omega arith
+
+-- where the coefficients are equal, the constants decide
+pub constant_before : (a b : Row) → ((u : ℕ) → coefficient_of a.pairs u ≡ coefficient_of b.pairs u) → a.constant <ℤ b.constant → row_lt a b ≡ true
+constant_before a b e l =
+    below-lt a b (record {
+      at = 2 ^ 32;
+      less = (
+        let x : coefficient_of (entries a) (2 ^ 32) ≡ coefficient_of a.pairs (2 ^ 32) +ℤ a.constant = last_entry a (2 ^ 32) refl in
+        let y : coefficient_of (entries b) (2 ^ 32) ≡ coefficient_of b.pairs (2 ^ 32) +ℤ b.constant = last_entry b (2 ^ 32) refl in
+        less_by (coefficient_of (entries a) (2 ^ 32)) (coefficient_of (entries b) (2 ^ 32)) (coefficient_of a.pairs (2 ^ 32)) (coefficient_of b.pairs (2 ^ 32)) a.constant b.constant x y (e (2 ^ 32)) l
+      );
+      same = λ u k. other_entry a u (under u k) ∙ (e u ∙ sym (other_entry b u (under u k)));
+    })
+  where
+    under : (u : ℕ) → u < 2 ^ 32 → u ≢ 2 ^ 32
+    under u l e = omega arith
+
+    less_by : (x y p q c d : ℤ) → x ≡ p +ℤ c → y ≡ q +ℤ d → p ≡ q → c <ℤ d → x <ℤ y
+    less_by x y p q c d ex ey e l = omega (arith, ints)
+
+pub not_before : (a b : Row) → ((u : ℕ) → coefficient_of a.pairs u ≡ coefficient_of b.pairs u) → b.constant ≤ℤ a.constant → row_lt a b ≡ false
+not_before a b e l = false_from_ne_true (row_lt a b) (λ k. at (lt-below a b k))
+  where
+    no_less : (x y p q c d : ℤ) → x ≡ p +ℤ c → y ≡ q +ℤ d → p ≡ q → d ≤ℤ c → x <ℤ y → ⊥
+    no_less x y p q c d ex ey e l m = omega (arith, ints)
+
+    same_less : (x y p q : ℤ) → x ≡ p → y ≡ q → p ≡ q → x <ℤ y → ⊥
+    same_less x y p q ex ey e m = omega (arith, ints)
+
+    cases : (u : ℕ) → coefficient_of (entries a) u <ℤ coefficient_of (entries b) u → (u ≡ 2 ^ 32) ⊎ (u ≡ 2 ^ 32 → ⊥) → ⊥
+    cases u m (inl s) =
+        no_less (coefficient_of (entries a) u) (coefficient_of (entries b) u) (coefficient_of a.pairs u) (coefficient_of b.pairs u) a.constant b.constant (last_entry a u s) (last_entry b u s) (e u) l m
+    cases u m (inr s) = same_less (coefficient_of (entries a) u) (coefficient_of (entries b) u) (coefficient_of a.pairs u) (coefficient_of b.pairs u) (other_entry a u s) (other_entry b u s) (e u) m
+
+    at : IsBelow (coefficient_of (entries a)) (coefficient_of (entries b)) → ⊥
+    at s = cases s.at s.less (cases_eq s.at (2 ^ 32))
+
+-- ---- how the code compares two rows
+pub unequal_rows : (a b : Row) (r : Ordering) → r ≢ Equal → IsCompared r (λ u. coefficient_of a.pairs u +ℤ negsuc 0 *ℤ coefficient_of b.pairs u) (coefficient_of []) → is_lt r ≡ row_lt a b
+unequal_rows a b Less n h =
+    sym (pairs_before a b (shift_within (λ u. coefficient_of a.pairs u +ℤ negsuc 0 *ℤ coefficient_of b.pairs u) (coefficient_of []) (coefficient_of a.pairs) (coefficient_of b.pairs) (2 ^ 32)
+    (λ u. omega (arith, ints, minus_one-* (coefficient_of b.pairs u))) h))
+unequal_rows a b Equal n h = absurd (n refl)
+unequal_rows a b Greater n h =
+    sym (row_order.one_way b a (pairs_before b a (shift_within (coefficient_of []) (λ u. coefficient_of a.pairs u +ℤ negsuc 0 *ℤ coefficient_of b.pairs u) (coefficient_of b.pairs) (coefficient_of a.pairs) (2 ^ 32)
+    (λ u. omega (arith, ints, minus_one-* (coefficient_of b.pairs u))) h)))
+
+pub equal_rows : (a b : Row) (r : Ordering) → r ≡ int_cmp a.constant b.constant → ((u : ℕ) → coefficient_of a.pairs u +ℤ negsuc 0 *ℤ coefficient_of b.pairs u ≡ pos 0) → is_lt r ≡ row_lt a b
+equal_rows a b r e h = at r (int_ranked a.constant b.constant r e)
+  where
+    same : (u : ℕ) → coefficient_of a.pairs u ≡ coefficient_of b.pairs u
+    same u = let k : coefficient_of a.pairs u +ℤ negsuc 0 *ℤ coefficient_of b.pairs u ≡ pos 0 = h u in omega (arith, ints, minus_one-* (coefficient_of b.pairs u))
+
+    at : (r : Ordering) → MatchOrdering r (a.constant <ℤ b.constant) (a.constant ≡ b.constant) (b.constant <ℤ a.constant) → is_lt r ≡ row_lt a b
+    at Less l = sym (constant_before a b same l)
+    at Equal l = sym (not_before a b same (omega (arith, ints)))
+    at Greater l = sym (not_before a b same (omega (arith, ints)))

@@ -4,6 +4,7 @@
 mod directly;
 mod order;
 mod parts;
+mod search;
 mod steps;
 
 pub use directly::{direct, direct_law};
