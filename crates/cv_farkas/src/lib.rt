@@ -2,7 +2,9 @@
 #![tactic(auto)]
 
 mod directly;
+mod order;
 mod parts;
+mod search;
 mod steps;
 
 pub use directly::{direct, direct_law};

@@ -1,14 +1,15 @@
 //! Steps of proof.
-ghost use Rattle.std.specs.Prelude.{◌≡◌, ◌↔◌, ◌≤◌, ◌<◌, ◌^◌, ℕ, ℤ, pos, ◌≤ℤ◌, IsTrue, IfOk, MatchOption, All, length};
+ghost use Rattle.std.specs.Prelude.{◌≡◌, ◌↔◌, ◌≤◌, ◌<◌, ◌^◌, ℕ, ℤ, pos, ◌≤ℤ◌, IsTrue, IfOk, MatchOption, All, length, [], ◌∷◌};
 ghost use Rattle.std.specs.Int.RustNames.{unsigned_abs};
 ghost use Rattle.cv_num.specs.Pairs.{IsCanonical};
 ghost use Rattle.cv_num.specs.Rows.{as_row, row_value, wide_value};
 ghost use Rattle.cv_farkas.specs.Covers.{IsInRange, IsCovered};
 ghost use Rattle.cv_farkas.specs.Proof;
-ghost use Rattle.cv_farkas.specs.Steps.{Holds, HoldsBy, IsShort};
+ghost use Rattle.cv_farkas.specs.Steps.{Holds, HoldsBy, IsShort, IsTwoParts, two_ascending};
 ghost use Rattle.cv_farkas.specs.declared.steps.Step.{Step};
 
 use crate::parts::{balances, constant_sum, multiple_less_one};
+use crate::search::{find_sum, index_of};
 use cv_list::List;
 use cv_num::{Row, Wide};
 use std::alloc::{AllocError, Global};
@@ -90,7 +91,52 @@ fn plain_step(alloc: Global, parts: &[(u32, u32)]) -> Result<Step, AllocError>
     })
 }
 
-/// A short step that holds, where there is one.
+/// A hypothesis that proves the goal, or a contradiction, alone.
+fn lone_part(hyps: &[Row], goal: &Wide) -> Option<u32>
+    requires few { length hyps.now ≤ 4096 }
+    requires pairs { All (λ p. unsigned_abs p.1 ≤ 2 ^ 102) goal.now.pairs }
+    requires constant { unsigned_abs goal.now.constant ≤ 2 ^ 102 }
+    ensures { MatchOption result ((i : ℕ) → i < length hyps.now → ¬ (HoldsBy hyps.now goal.now 1 ((i, 1) ∷ []))) (λ i. HoldsBy hyps.now goal.now 1 ((i, 1) ∷ [])) }
+{
+    let count = hyps.len() as u32;
+    for number in 0..count {
+        if holds(hyps, goal, 1, &[(number, 1)]) {
+            return Some(number);
+        }
+    }
+    None
+}
+
+/// Two hypotheses whose sum proves the goal, or a contradiction. An error is want of memory.
+fn two_parts(
+    alloc: Global,
+    hyps: &[Row],
+    goal: &Wide,
+) -> Result<Option<(u32, u32)>, AllocError>
+    requires { length hyps.now ≤ 4096 }
+    ensures { IfOk result (λ found. MatchOption found ((i j : ℕ) → ¬ (HoldsBy hyps.now goal.now 1 ((i, 1) ∷ (j, 1) ∷ []))) (λ p. IsTwoParts hyps.now goal.now p.0 p.1)) }
+{
+    let index = index_of(alloc, hyps)?;
+    if let Some(found) = find_sum(&index, goal.pairs.as_slice(), goal.constant) {
+        return Ok(Some(found));
+    }
+    Ok(find_sum(&index, &[], -1))
+}
+
+/// The step of two hypotheses, each with the multiplier 1. An error is want of memory.
+fn pair_step(alloc: Global, first: u32, second: u32) -> Result<Step, AllocError>
+    ensures { IfOk result (λ s. (s.d ≡ 1) × (s.parts ≡ two_ascending first second)) }
+{
+    if first < second {
+        plain_step(alloc, &[(first, 1), (second, 1)])
+    } else {
+        plain_step(alloc, &[(second, 1), (first, 1)])
+    }
+}
+
+/// A short step that holds, where there is one: of the divisor 1, with at most two hypotheses, each
+/// with the multiplier 1. None where no short step holds, and so always beyond 4096 hypotheses. An
+/// error is want of memory.
 pub fn prove(alloc: Global, hyps: &[Row], goal: &Wide) -> Result<Option<Step>, AllocError>
     requires pairs { All (λ p. unsigned_abs p.1 ≤ 2 ^ 102) goal.now.pairs }
     requires constant { unsigned_abs goal.now.constant ≤ 2 ^ 102 }
@@ -99,21 +145,16 @@ pub fn prove(alloc: Global, hyps: &[Row], goal: &Wide) -> Result<Option<Step>, A
     if hyps.len() > 4096 {
         return Ok(None);
     }
-    let count = hyps.len() as u32;
     if holds(hyps, goal, 1, &[]) {
         return Ok(Some(plain_step(alloc, &[])?));
     }
-    for first in 0..count {
-        if holds(hyps, goal, 1, &[(first, 1)]) {
-            return Ok(Some(plain_step(alloc, &[(first, 1)])?));
-        }
-        for second in first + 1..count {
-            if holds(hyps, goal, 1, &[(first, 1), (second, 1)]) {
-                return Ok(Some(plain_step(alloc, &[(first, 1), (second, 1)])?));
-            }
-        }
+    if let Some(number) = lone_part(hyps, goal) {
+        return Ok(Some(plain_step(alloc, &[(number, 1)])?));
     }
-    Ok(None)
+    let Some((first, second)) = two_parts(alloc, hyps, goal)? else {
+        return Ok(None);
+    };
+    Ok(Some(pair_step(alloc, first, second)?))
 }
 
 /// Where a step holds, the goal is at least 0 at each point where all hypotheses are.

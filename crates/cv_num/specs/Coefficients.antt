@@ -162,7 +162,7 @@ coefficient_of-head x xs h = at (nat_eq x.0 x.0) (eq-eqb x.0 x.0 refl) (coeffici
     at true q z = omega (arith, ints)
     at false q z = cc
 
-coefficient_of-under : (v : ℕ) (x : ℕ × ℤ) (xs : List (ℕ × ℤ)) → IsCanonical (x ∷ xs) → v < x.0 → coefficient_of (x ∷ xs) v ≡ pos 0
+pub coefficient_of-under : (v : ℕ) (x : ℕ × ℤ) (xs : List (ℕ × ℤ)) → IsCanonical (x ∷ xs) → v < x.0 → coefficient_of (x ∷ xs) v ≡ pos 0
 coefficient_of-under v x xs h l =
     coefficient_of-above v (x ∷ xs) (All-cons (λ y. v < y.0) x xs l (All-weaker (λ y. x.0 < y.0) (λ y. v < y.0) (λ y m. omega arith) xs h.1))
 

@@ -120,3 +120,10 @@ substituted_pairs-constant by (x ∷ ps) = ap (λ z. (x.1 *ℤ (image by x.0).co
 
 pub substituted-constant : (by : List (ℕ × Row)) (a : Row) → (substituted by a).constant ≡ a.constant +ℤ sum_at (λ v. (image by v).constant) a.pairs
 substituted-constant by a = omega (arith, ints, substituted_pairs-constant by a.pairs)
+
+-- the same for lists of pairs
+pub add_pairs-coefficient : (ps qs : List (ℕ × ℤ)) (u : ℕ) → coefficient_of (add_pairs ps qs) u ≡ coefficient_of ps u +ℤ coefficient_of qs u
+add_pairs-coefficient ps qs u = plus-coefficient (record { pairs = ps; constant = pos 0 }) (record { pairs = qs; constant = pos 0 }) u
+
+pub times_pairs-coefficient : (k : ℤ) (ps : List (ℕ × ℤ)) (u : ℕ) → coefficient_of (times_pairs k ps) u ≡ k *ℤ coefficient_of ps u
+times_pairs-coefficient k ps u = times-coefficient k (record { pairs = ps; constant = pos 0 }) u
