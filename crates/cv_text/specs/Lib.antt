@@ -1,6 +1,5 @@
 pub mod Spelling
 pub mod Tokens
-pub mod Phrase
 pub mod Grammar
 pub mod Clauses
 pub mod Whole
