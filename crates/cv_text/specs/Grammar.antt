@@ -1,5 +1,5 @@
 -- The grammar of CoreC: which lines of tokens spell which tree. It knows no reader.
-use Rattle.std.specs.Prelude.{◌≡◌, ℕ, ◌+◌, ◌<◌, ◌≤◌, ◌^◌, Bool, true, false, if◌then◌else◌, List, [], ◌∷◌, Option, Some, None, ℤ, pos, neg_ℤ, ◌⊎◌}
+use Rattle.std.specs.Prelude.{◌≡◌, ℕ, ◌+◌, ◌<◌, ◌≤◌, ◌^◌, Bool, true, false, if◌then◌else◌, List, [], ◌∷◌, Some, None, ℤ, pos, neg_ℤ, ◌⊎◌}
 use Rattle.std.specs.Str.{bytes_eq}
 use Rattle.cv_core.specs.declared.program.GlobalDecl.{GlobalDecl}
 use Rattle.cv_core.specs.declared.program.GlobalBody.{GlobalBody}
@@ -27,7 +27,7 @@ use Rattle.cv_text.specs.declared.token.Key.TheVariants as key
 use Rattle.cv_text.specs.declared.token.Sign.{Sign}
 use Rattle.cv_text.specs.declared.token.Sign.TheVariants as sign
 use Rattle.cv_text.specs.Tokens.{name, word, digits, mark, Line, value_of}
-use Rattle.cv_reading.specs.Phrase.{one, nothing, ◌⋅◌, Separated}
+use Rattle.cv_reading.specs.Phrase.{one, ◌⋅◌, Separated}
 
 -- ---- single tokens
 

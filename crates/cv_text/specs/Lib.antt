@@ -4,3 +4,4 @@ pub mod Grammar
 pub mod Clauses
 pub mod Whole
 pub mod Narrow
+pub mod Seen
