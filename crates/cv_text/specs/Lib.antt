@@ -5,3 +5,5 @@ pub mod Clauses
 pub mod Whole
 pub mod Narrow
 pub mod Seen
+pub mod Reader
+pub mod Given

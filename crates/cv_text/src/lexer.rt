@@ -111,6 +111,7 @@ fn rest_of(text: &[u8], at: usize) -> &[u8]
 
 /// A token with the places of its first byte and of the byte behind it. Both places are the same,
 /// the length of the text, where no token is left.
+#[derive(Clone, Copy, Debug)]
 pub struct Placed<'a> {
     pub token: Option<Token<'a>>,
     pub at: usize,

@@ -1,6 +1,7 @@
 //! CoreC text: its tokens, its grammar and its readers.
 #![tactic(auto)]
 
+mod cursor;
 mod lexer;
 mod token;
 
