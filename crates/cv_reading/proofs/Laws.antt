@@ -2,8 +2,8 @@
 -- and where reading stops, what was taken can go on, and the next token alone decides that it stops.
 use Rattle.std.proofs.Common.{◌≡◌, ℕ, zero, suc, ◌+◌, ◌<◌, Bool, true, false, List, [], ◌∷◌, ◌++◌, length, Option, Some, None, Result, Ok, Err, refl, sym, ap, subst, ◌∙◌, append_assoc, arith, ◌⊎◌, inl, inr}
 use Rattle.std.proofs.lemmas.List.{append-nil, length-append}
-use Rattle.cv_reading.specs.Phrase.{one, ◌⋅◌}
-use Rattle.cv_reading.specs.Reading.{Outcome, Reading, and_then, taken, token, passed, exactly, ◌&◌, ◌▷◌, made, chosen, choose, on, more, many_in, many}
+use Rattle.cv_reading.specs.Phrase.{one, nothing, ◌⋅◌}
+use Rattle.cv_reading.specs.Reading.{Outcome, Reading, and_then, taken, token, passed, exactly, ◌&◌, ◌▷◌, ◌◁◌, made, chosen, choose, on, more, many_in, many}
 use Rattle.cv_reading.specs.Fault.{Viable, Fails, FirstFault}
 
 abbrev pub first : {T : Type 0} → List T → Option T
@@ -208,6 +208,41 @@ reads_both {T} {A} {B} {r} {s} {p} {q} one_by then_by = reads_as (reads_bind one
 
 pub reads_then : {T B : Type 0} {r : Reading T (Unit {0})} {s : Reading T B} {p : Unit {0} → List T → Type 0} {q : B → List T → Type 0} → Reads r p → Reads s q → Reads (r ▷ s) (λ b. p tt ⋅ q b)
 reads_then one_by then_by = reads_as (reads_bind one_by (λ _. then_by)) (λ b text h. h.1) (λ b text h. (tt, h))
+
+pub reads_ended : {T A : Type 0} {r : Reading T A} {s : Reading T (Unit {0})} {p : A → List T → Type 0} {q : Unit {0} → List T → Type 0} → Reads r p → Reads s q → Reads (r ◁ s) (λ a. p a ⋅ q tt)
+reads_ended {T} {A} {r} {s} {p} {q} one_by then_by = reads_as (reads_bind one_by (λ a. reads_made (λ _. a) then_by)) to (λ a text h. (a, (h.0, h.1, h.2, (tt, refl, h.3), h.4)))
+  where
+    to : (a : A) (text : List T) → Then p (λ b. Made (λ _. b) q) a text → (p a ⋅ q tt) text
+    to a text (b, (front, rest, h, (u, e, k), parts)) =
+        let whole : (p b ⋅ q tt) text = (front, rest, h, k, parts) in
+        subst (λ (c : A). (p c ⋅ q tt) text) (sym e) whole
+
+-- ---- the same sets of lines
+
+pub behind_nothing : {T : Type 0} (p : List T → Type 0) (text : List T) → (nothing ⋅ p) text → p text
+behind_nothing {T} p text (front, rest, e, h, parts) = subst (λ (u : List T). p u) (sym (parts ∙ ap (λ (u : List T). u ++ rest) e)) h
+
+pub with_nothing : {T : Type 0} (p : List T → Type 0) (text : List T) → p text → (nothing ⋅ p) text
+with_nothing p text h = ([], text, refl, h, refl)
+
+pub before_nothing : {T : Type 0} (p : List T → Type 0) (text : List T) → (p ⋅ nothing) text → p text
+before_nothing {T} p text (front, rest, h, e, parts) = subst (λ (u : List T). p u) (sym (parts ∙ ap (λ (u : List T). front ++ u) e ∙ append-nil front)) h
+
+pub then_nothing : {T : Type 0} (p : List T → Type 0) (text : List T) → p text → (p ⋅ nothing) text
+then_nothing p text h = (text, [], h, refl, sym (append-nil text))
+
+pub to_right : {T : Type 0} (p q r : List T → Type 0) (text : List T) → ((p ⋅ q) ⋅ r) text → (p ⋅ (q ⋅ r)) text
+to_right {T} p q r text (front, c, (a, b, h, k, inner), l, parts) = (a, b ++ c, h, (b, c, k, l, refl), parts ∙ ap (λ (u : List T). u ++ c) inner ∙ append_assoc a b c)
+
+pub to_left : {T : Type 0} (p q r : List T → Type 0) (text : List T) → (p ⋅ (q ⋅ r)) text → ((p ⋅ q) ⋅ r) text
+to_left {T} p q r text (a, rest, h, (b, c, k, l, inner), parts) = (a ++ b, c, (a, b, h, k, refl), l, parts ∙ ap (λ (u : List T). a ++ u) inner ∙ sym (append_assoc a b c))
+
+-- one of the two changed
+pub first_as : {T : Type 0} (p q r : List T → Type 0) → ((text : List T) → p text → q text) → (text : List T) → (p ⋅ r) text → (q ⋅ r) text
+first_as p q r f text (a, b, h, k, parts) = (a, b, f a h, k, parts)
+
+pub second_as : {T : Type 0} (p q r : List T → Type 0) → ((text : List T) → q text → r text) → (text : List T) → (p ⋅ q) text → (p ⋅ r) text
+second_as p q r f text (a, b, h, k, parts) = (a, b, h, f b k, parts)
 
 -- ---- items, up to what ends them
 

@@ -46,6 +46,11 @@ infixr 10 ◌▷◌
 abbrev pub ◌▷◌ : {T B : Type 0} → Reading T (Unit {0}) → Reading T B → Reading T B
 r ▷ s = λ ts. and_then (r ts) (λ _. s)
 
+-- the one, whose value counts, and then the other
+infixl 11 ◌◁◌
+abbrev pub ◌◁◌ : {T A : Type 0} → Reading T A → Reading T (Unit {0}) → Reading T A
+r ◁ s = λ ts. and_then (r ts) (λ a. made (λ _. a) s)
+
 -- By the first token where it is one of these, and another reading where it is not.
 abbrev pub chosen : {T A B : Type 0} → Option B → (B → Reading T A) → Reading T A → List T → List T → Outcome T A
 chosen (Some b) then_by otherwise all rest = then_by b rest

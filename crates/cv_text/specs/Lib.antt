@@ -7,3 +7,4 @@ pub mod Narrow
 pub mod Seen
 pub mod Reader
 pub mod Given
+pub mod NarrowReader

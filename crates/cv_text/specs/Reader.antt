@@ -3,7 +3,7 @@ use Rattle.std.specs.Prelude.{◌≡◌, ℕ, zero, suc, ◌+◌, ◌^◌, Bool,
 use Rattle.std.specs.Str.{bytes_eq}
 use Rattle.cv_core.specs.declared.program.Operand.{Operand}
 use Rattle.cv_core.specs.declared.program.Operand.TheVariants as operand
-use Rattle.cv_reading.specs.Reading.{Reading, token, exactly, choose, made, on, give, ◌&◌, ◌▷◌}
+use Rattle.cv_reading.specs.Reading.{Reading, token, exactly, choose, made, on, ◌◁◌}
 use Rattle.cv_text.specs.declared.token.Key.{Key}
 use Rattle.cv_text.specs.declared.token.Key.TheVariants as key
 use Rattle.cv_text.specs.declared.token.Sign.{Sign}
@@ -52,3 +52,17 @@ within low high t = None
 
 unfoldable pub digits_within : ℕ → ℕ → Reading Lexeme ℕ
 digits_within low high = token (within low high)
+
+-- a number of a line or a jump
+unfoldable pub count : Reading Lexeme ℕ
+count = digits_within 0 (2 ^ 31)
+
+unfoldable pub size : Reading Lexeme ℕ
+size = digits_within 1 (2 ^ 31)
+
+-- a number within the range of an int
+unfoldable pub number : Reading Lexeme ℤ
+number = on (is_mark sign.Minus) (made (λ n. neg_ℤ (pos n)) (digits_within 0 (2 ^ 31 + 1))) (made (λ n. pos n) (digits_within 0 (2 ^ 31)))
+
+unfoldable pub semicolon : Reading Lexeme (Unit {0})
+semicolon = the_mark sign.Semicolon

@@ -3,6 +3,7 @@
 
 mod cursor;
 mod lexer;
+mod narrow;
 mod token;
 
 pub use token::{Key, Sign};
