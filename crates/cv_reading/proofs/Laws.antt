@@ -289,6 +289,20 @@ module _ {T A E : Type 0} {item : Reading T (Result A E)} {p : Result A E → Li
           by_item (Err e) rest h = refl
           by_item (Ok a) rest h = ap (with_item a) (enough (length ts) (suc (length rest)) rest (shrinks ts (Ok a) rest h) (omega arith))
 
+  -- what a loop over the items does with each of them
+  pub many_goes : {C : Type 0} (f : List A × E → Reading T C) (ts : List T) (a : A) (after : List T) → item ts ≡ Ok (Ok a, after) → and_then (many item ts) f ≡ and_then (many item after) (λ v. f (a ∷ v.0, v.1))
+  many_goes {C} f ts a after e = ap (λ (o : Outcome T (List A × E)). and_then o f) (many_opens ts ∙ goes_through item (more (many item)) ts (Ok a) after (with_item a (many item after)) e refl) ∙ regroup (many item after)
+    where
+      regroup : (o : Outcome T (List A × E)) → and_then (with_item a o) f ≡ and_then o (λ v. f (a ∷ v.0, v.1))
+      regroup (Ok q) = refl
+      regroup (Err at) = refl
+
+  pub many_ends : {C : Type 0} (f : List A × E → Reading T C) (ts : List T) (e : E) (after : List T) → item ts ≡ Ok (Err e, after) → and_then (many item ts) f ≡ f ([], e) after
+  many_ends {C} f ts e after h = ap (λ (o : Outcome T (List A × E)). and_then o f) (many_opens ts ∙ goes_through item (more (many item)) ts (Err e) after (Ok (([], e), after)) h refl)
+
+  pub many_fails : {C : Type 0} (f : List A × E → Reading T C) (ts at : List T) → item ts ≡ Err at → and_then (many item ts) f ≡ Err at
+  many_fails {C} f ts at h = ap (λ (o : Outcome T (List A × E)). and_then o f) (many_opens ts ∙ ap (λ (o : Outcome T (Result A E)). and_then o (more (many item))) h)
+
   items_again : (found : List A) (e : E) (text rest : List T) → Items p found e text → many item (text ++ rest) ≡ Ok ((found, e), rest)
   items_again [] e text rest h = many_opens (text ++ rest) ∙ goes_through item (more (many item)) (text ++ rest) (Err e) rest (Ok (([], e), rest)) (by.again (Err e) text rest h) refl
   items_again (a ∷ found) e text rest h =

@@ -1,2 +1,4 @@
 pub mod Lexing
 pub mod Values
+pub mod Singles
+pub mod Straight

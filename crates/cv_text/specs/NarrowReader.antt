@@ -11,6 +11,8 @@ use Rattle.cv_reading.specs.Reading.{Reading, on, made, many, ◌&◌, ◌▷◌
 use Rattle.cv_text.specs.declared.token.Key.TheVariants as key
 use Rattle.cv_text.specs.declared.token.Sign.TheVariants as sign
 use Rattle.cv_text.specs.declared.narrow.Locals.{Locals}
+use Rattle.cv_text.specs.declared.narrow.Step.{Step}
+use Rattle.cv_text.specs.declared.narrow.Step.TheVariants as step
 use Rattle.cv_text.specs.Tokens.{Lexeme}
 use Rattle.cv_text.specs.Reader.{is_word, is_mark, the_name, the_word, the_mark, a_name, count, size, number, semicolon}
 use Rattle.cv_text.specs.Narrow.{buffer_local, pointer_local, main_alone}
@@ -39,6 +41,11 @@ number_return = made (λ k. form.Return (Some (any.Operand (operand.Number k))))
 unfoldable pub last_or_move : List ℕ → List ℕ → Reading Lexeme (Result Form Form)
 last_or_move b p = on (is_word key.Return) (made Err number_return) (made Ok (pointer_move b p))
 
+-- what a step of the code is
+abbrev pub step_of : Step → Result Stmt Stmt
+step_of (step.Move s) = Ok s
+step_of (step.Last s) = Err s
+
 abbrev pub at_line : ℕ × Result Form Form → Result Stmt Stmt
 at_line v = elim v.1 [ Ok f ↦ Ok (record { line = v.0; form = f }) | Err f ↦ Err (record { line = v.0; form = f }) ]
 
@@ -48,8 +55,12 @@ statement b p = made at_line (count & λ _. the_mark sign.Colon ▷ last_or_move
 abbrev pub all_of : List Stmt × Stmt → List Stmt
 all_of v = v.0 ++ v.1 ∷ []
 
+-- those behind the ones before
+abbrev pub statements_onto : List ℕ → List ℕ → List Stmt → Reading Lexeme (List Stmt)
+statements_onto b p before = made (λ v. before ++ all_of v) (many (statement b p))
+
 unfoldable pub statements : List ℕ → List ℕ → Reading Lexeme (List Stmt)
-statements b p = made all_of (many (statement b p))
+statements b p = statements_onto b p []
 
 -- ---- locals
 

@@ -1,6 +1,6 @@
 //! Reading straight-line programs.
 
-ghost use Rattle.std.specs.Prelude.{◌≡◌, ◌≤◌, ◌<◌, ◌^◌, ◌+◌, ◌∷◌, ◌++◌, length, Ok, Err};
+ghost use Rattle.std.specs.Prelude.{◌≡◌, ◌↔◌, ◌≤◌, [], length, IsTrue};
 ghost use Rattle.cv_text.specs.NarrowReader as spec;
 ghost use Rattle.cv_text.specs.Given.{Gives, from};
 
@@ -95,4 +95,176 @@ fn pointer_move(
         Some(Token::Word(Key::Store)) => store(alloc, text, next.end, p),
         _ => assignment(alloc, text, at, b, p),
     }
+}
+
+#[tactic(auto, unfolding(crate::specs::NarrowReader::number_return))]
+fn number_return(text: &[u8], at: usize) -> Result<(Form, usize), ReadError>
+    ensures { Gives text.now (λ x. (x.0, x.1)) result (spec.number_return (from text.now at)) }
+{
+    let (k, at) = number(text, at)?;
+    let at = semicolon(text, at)?;
+    let value = AnyOperand::Operand(Operand::Number(k));
+    Ok((Form::Return(Some(value)), at))
+}
+
+/// A statement of a straight-line program.
+#[derive(Debug, Drop)]
+enum Step {
+    Move(Stmt),
+    Last(Stmt),
+}
+
+#[tactic(auto, unfolding(crate::specs::NarrowReader::statement, crate::specs::NarrowReader::last_or_move))]
+fn statement(
+    alloc: Global,
+    text: &[u8],
+    at: usize,
+    b: &[u8],
+    p: &[u8],
+) -> Result<(Step, usize), ReadError>
+    ensures { Gives text.now (λ x. (spec.step_of x.0, x.1)) result (spec.statement b.now p.now (from text.now at)) }
+{
+    let (line, at) = count(text, at)?;
+    let at = the_mark(text, at, Sign::Colon)?;
+    let next = next_token(text, at);
+    match next.token {
+        Some(Token::Word(Key::Return)) => {
+            let (form, at) = number_return(text, next.end)?;
+            Ok((Step::Last(Stmt { line, form }), at))
+        }
+        _ => {
+            let (form, at) = pointer_move(alloc, text, at, b, p)?;
+            Ok((Step::Move(Stmt { line, form }), at))
+        }
+    }
+}
+
+#[tactic(auto, unfolding(crate::specs::NarrowReader::buffer))]
+fn buffer(alloc: Global, text: &[u8], at: usize) -> Result<((Bytes, u32), usize), ReadError>
+    ensures { Gives text.now (λ x. (x.0, x.1)) result (spec.buffer (from text.now at)) }
+{
+    let (name, at) = a_name(alloc, text, at)?;
+    let (bytes, at) = size(text, at)?;
+    let at = semicolon(text, at)?;
+    Ok(((name, bytes), at))
+}
+
+#[tactic(auto, unfolding(crate::specs::NarrowReader::pointer))]
+fn pointer(alloc: Global, text: &[u8], at: usize) -> Result<(Bytes, usize), ReadError>
+    ensures { Gives text.now (λ x. (x.0, x.1)) result (spec.pointer (from text.now at)) }
+{
+    let (name, at) = a_name(alloc, text, at)?;
+    let at = semicolon(text, at)?;
+    Ok((name, at))
+}
+
+#[tactic(auto, unfolding(crate::specs::NarrowReader::buffer_first))]
+fn buffer_first(alloc: Global, text: &[u8], at: usize) -> Result<(Locals, usize), ReadError>
+    ensures { Gives text.now (λ x. (x.0, x.1)) result (spec.buffer_first (from text.now at)) }
+{
+    let ((buffer, size), at) = buffer(alloc, text, at)?;
+    let at = the_word(text, at, Key::Ptr)?;
+    let (pointer, at) = pointer(alloc, text, at)?;
+    Ok((Locals { buffer, size, pointer, buffer_first: true }, at))
+}
+
+#[tactic(auto, unfolding(crate::specs::NarrowReader::pointer_first))]
+fn pointer_first(alloc: Global, text: &[u8], at: usize) -> Result<(Locals, usize), ReadError>
+    ensures { Gives text.now (λ x. (x.0, x.1)) result (spec.pointer_first (from text.now at)) }
+{
+    let at = the_word(text, at, Key::Ptr)?;
+    let (pointer, at) = pointer(alloc, text, at)?;
+    let at = the_word(text, at, Key::Buf)?;
+    let ((buffer, size), at) = buffer(alloc, text, at)?;
+    Ok((Locals { buffer, size, pointer, buffer_first: false }, at))
+}
+
+#[tactic(auto, unfolding(crate::specs::NarrowReader::locals))]
+fn two_locals(alloc: Global, text: &[u8], at: usize) -> Result<(Locals, usize), ReadError>
+    ensures { Gives text.now (λ x. (x.0, x.1)) result (spec.locals (from text.now at)) }
+{
+    let next = next_token(text, at);
+    match next.token {
+        Some(Token::Word(Key::Buf)) => buffer_first(alloc, text, next.end),
+        _ => pointer_first(alloc, text, at),
+    }
+}
+
+#[tactic(auto, unfolding(crate::specs::NarrowReader::statements))]
+fn statements(
+    alloc: Global,
+    text: &[u8],
+    at: usize,
+    b: &[u8],
+    p: &[u8],
+) -> Result<(List<Stmt>, usize), ReadError>
+    ensures { Gives text.now (λ x. (x.0, x.1)) result (spec.statements b.now p.now (from text.now at)) }
+{
+    let mut stmts = List::new(alloc);
+    let mut here = at;
+    loop {
+        let (step, after) = statement(alloc, text, here, b, p)?;
+        match step {
+            Step::Last(stmt) => {
+                stmts.push(stmt)?;
+                return Ok((stmts, after));
+            }
+            Step::Move(stmt) => {
+                stmts.push(stmt)?;
+                here = after;
+            }
+        }
+    }
+}
+
+#[tactic(auto, unfolding(crate::specs::NarrowReader::body))]
+fn body(
+    alloc: Global,
+    text: &[u8],
+    at: usize,
+) -> Result<((Locals, List<Stmt>), usize), ReadError>
+    ensures { Gives text.now (λ x. (x.0, x.1)) result (spec.body (from text.now at)) }
+{
+    let (locals, at) = two_locals(alloc, text, at)?;
+    let b = locals.buffer.as_slice();
+    let p = locals.pointer.as_slice();
+    let (stmts, at) = statements(alloc, text, at, b, p)?;
+    let at = the_mark(text, at, Sign::CloseBrace)?;
+    Ok(((locals, stmts), at))
+}
+
+/// A program of one `int main()` with two locals and straight-line statements, whatever their number and the names are.
+#[derive(Debug, Drop)]
+struct Parts {
+    line: u32,
+    locals: Locals,
+    stmts: List<Stmt>,
+}
+
+#[tactic(auto, unfolding(crate::specs::NarrowReader::narrow, crate::specs::NarrowReader::heading_and_body))]
+fn all_parts(alloc: Global, text: &[u8]) -> Result<(Parts, usize), ReadError>
+    ensures { Gives text.now (λ x. ((x.0.line, (x.0.locals, x.0.stmts)), x.1)) result (spec.narrow (from text.now 0)) }
+{
+    let (line, at) = count(text, 0)?;
+    let at = the_mark(text, at, Sign::Colon)?;
+    let at = the_word(text, at, Key::Proc)?;
+    let at = the_word(text, at, Key::Int)?;
+    let at = the_name(text, at, b"main")?;
+    let at = the_mark(text, at, Sign::Open)?;
+    let at = the_mark(text, at, Sign::Close)?;
+    let at = the_mark(text, at, Sign::OpenBrace)?;
+    let ((locals, stmts), at) = body(alloc, text, at)?;
+    Ok((Parts { line, locals, stmts }, at))
+}
+
+fn same_names(a: &[u8], b: &[u8]) -> bool
+    ensures { IsTrue result ↔ (a.now ≡ b.now) }
+{
+    a == b
+}
+
+fn is_at_end(text: &[u8], at: usize) -> bool
+    ensures { IsTrue result ↔ (from text.now at ≡ []) }
+{
+    next_token(text, at).token.is_none()
 }
