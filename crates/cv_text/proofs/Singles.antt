@@ -1,19 +1,19 @@
 -- What single tokens and numbers are read from.
-use Rattle.std.proofs.Common.{◌≡◌, ℕ, ◌+◌, ◌<◌, ◌≤◌, ◌^◌, Bool, true, false, cond, ltb, leb, ◌&&◌, List, [], ◌∷◌, ◌++◌, length, Option, Some, None, ℤ, pos, neg_ℤ, refl, sym, ap, subst, ◌∙◌, arith, ◌⊎◌, inl, inr}
+use Rattle.std.proofs.Common.{◌≡◌, ℕ, ◌+◌, ◌<◌, ◌≤◌, ◌^◌, Bool, true, false, ltb, leb, ◌&&◌, List, [], ◌∷◌, Option, Some, ℤ, pos, neg_ℤ, refl, sym, ap, subst, ◌∙◌, arith, inl, inr}
 use Rattle.std.proofs.lemmas.Bool.{ltb-true, lt-ltb, leb-true, le-leb}
 use Rattle.std.proofs.lemmas.Slice.Eq.{bytes_eq-Decides}
 use Rattle.std.specs.Str.{bytes_eq}
 use Rattle.std.specs.List.{find}
 use Rattle.cv_reading.specs.Phrase.{one, ◌⋅◌}
-use Rattle.cv_reading.specs.Reading.{passed, exactly, token, made, on}
-use Rattle.cv_reading.proofs.Laws.{Reads, Token, Only, Made, Or, BeginsElsewhere, reads_token, reads_exactly, reads_as, reads_made, reads_on}
+use Rattle.cv_reading.specs.Reading.{passed}
+use Rattle.cv_reading.proofs.Laws.{Reads, Only, Made, Or, BeginsElsewhere, reads_token, reads_exactly, reads_as, reads_made, reads_on}
 use Rattle.cv_text.specs.declared.token.Key.{Key}
 use Rattle.cv_text.specs.declared.token.Key.TheVariants as key
 use Rattle.cv_text.specs.declared.token.Sign.{Sign}
 use Rattle.cv_text.specs.declared.token.Sign.TheVariants as sign
-use Rattle.cv_text.specs.Spelling.{key_text, keys, sign_text, signs}
+use Rattle.cv_text.specs.Spelling.{key_text, sign_text, signs}
 use Rattle.cv_text.specs.Tokens.{Lexeme, name, word, digits, mark, other, Line, value_of, key_of}
-use Rattle.cv_text.specs.Grammar.{Name, Word, Mark, DigitsWithin, Count, Size, Plain, Signed, Number}
+use Rattle.cv_text.specs.Grammar.{Name, DigitsWithin, Count, Size, Number}
 use Rattle.cv_text.specs.Reader.{is_name_token, is_word, is_mark, the_name, the_word, the_mark, named, a_name, kept, within, digits_within, count, size, number, semicolon}
 
 -- ---- words and signs are told apart by their bytes

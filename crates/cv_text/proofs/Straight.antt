@@ -1,26 +1,24 @@
 -- What a straight-line program is read from.
-use Rattle.std.proofs.Common.{◌≡◌, ℕ, ◌+◌, ◌<◌, ◌≤◌, ◌^◌, Bool, true, false, List, [], ◌∷◌, ◌++◌, length, Option, Some, None, Result, Ok, Err, ℤ, refl, sym, ap, subst, ◌∙◌, arith, ◌⊎◌, inl, inr, codes, append_assoc, append-nil, length-append}
+use Rattle.std.proofs.Common.{◌≡◌, ℕ, ◌<◌, List, [], ◌∷◌, ◌++◌, length, Some, None, Result, Ok, Err, ℤ, refl, sym, ap, subst, ◌∙◌, arith, inl, inr, append_assoc}
 use Rattle.cv_core.specs.declared.program.Stmt.{Stmt}
 use Rattle.cv_core.specs.declared.program.Form.{Form}
 use Rattle.cv_core.specs.declared.program.Form.TheVariants as form
-use Rattle.cv_core.specs.declared.program.Operand.{Operand}
 use Rattle.cv_core.specs.declared.program.Operand.TheVariants as operand
-use Rattle.cv_core.specs.declared.program.AnyOperand.{AnyOperand}
 use Rattle.cv_core.specs.declared.program.AnyOperand.TheVariants as any
-use Rattle.cv_reading.specs.Phrase.{one, nothing, ◌⋅◌, Each}
-use Rattle.cv_reading.specs.Reading.{Outcome, Reading, and_then, passed, made, on, many, ◌&◌, ◌▷◌, ◌◁◌}
-use Rattle.cv_reading.proofs.Laws.{Reads, Only, Made, Or, Items, Until, BeginsElsewhere, reads_as, reads_made, reads_on, reads_both, reads_then, reads_ended, reads_many, many_goes, many_ends, many_fails, shrinks}
+use Rattle.cv_reading.specs.Phrase.{one, ◌⋅◌}
+use Rattle.cv_reading.specs.Reading.{Outcome, and_then, passed, many, ◌◁◌}
+use Rattle.cv_reading.proofs.Laws.{Reads, Made, Or, BeginsElsewhere, reads_as, reads_made, reads_on, reads_both, reads_then, reads_ended, many_goes, many_ends, many_fails, shrinks}
 use Rattle.cv_text.specs.declared.token.Key.TheVariants as key
 use Rattle.cv_text.specs.declared.token.Sign.TheVariants as sign
 use Rattle.cv_text.specs.Tokens.{Lexeme, name, word, digits, mark, Line}
-use Rattle.cv_text.specs.Grammar.{Name, Word, Mark, Count, Number, Value, end, Phrase}
-use Rattle.cv_text.specs.Reader.{is_word, is_mark, the_name, the_word, the_mark, number, semicolon}
+use Rattle.cv_text.specs.Grammar.{Name, Mark, Count, Number, end, Phrase}
+use Rattle.cv_text.specs.Reader.{is_word, is_mark, number, semicolon}
 use Rattle.cv_text.specs.Narrow.{IsMove, IsReturn}
 use Rattle.cv_text.specs.NarrowReader.{store, address, shift, assignment, pointer_move, number_return, last_or_move, at_line, statement, all_of, statements_onto}
 use Rattle.cv_text.specs.declared.cursor.ReadError.{ReadError}
 use Rattle.cv_text.specs.declared.cursor.ReadError.TheVariants as errors
 use Rattle.cv_text.specs.Given.{Fails, from}
-use Rattle.cv_text.proofs.Singles.{only_word, only_mark, reads_the_name, reads_the_word, reads_the_mark, reads_semicolon, reads_a_name, reads_count, reads_size, reads_number}
+use Rattle.cv_text.proofs.Singles.{only_word, only_mark, reads_the_name, reads_the_mark, reads_semicolon, reads_count, reads_number}
 
 -- ---- moves
 

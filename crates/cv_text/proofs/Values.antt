@@ -1,5 +1,5 @@
 -- The value of digits, cut off where it is wide.
-use Rattle.std.proofs.Common.{◌≡◌, ℕ, ◌+◌, ◌-◌, ◌*◌, ◌^◌, ◌<◌, ◌≤◌, min, List, [], ◌∷◌, length, drop, get_or, add-one, drop-cons, refl, sym, ap, ◌∙◌, arith, ◌⊎◌, inl, inr}
+use Rattle.std.proofs.Common.{◌≡◌, ℕ, ◌+◌, ◌-◌, ◌*◌, ◌<◌, ◌≤◌, min, List, [], ◌∷◌, length, drop, get_or, add-one, drop-cons, refl, sym, ap, ◌∙◌, arith, ◌⊎◌, inl, inr}
 use Rattle.cv_text.specs.Tokens.{value_behind}
 
 grows : (n : ℕ) (ds : List ℕ) → n ≤ value_behind n ds
@@ -12,6 +12,7 @@ cut w n ds = by_size (split n w)
   where
     split : (n w : ℕ) → (min n w ≡ n) ⊎ ((w ≤ n) × (min n w ≡ w))
     split n w = grind arith
+
     by_size : (min n w ≡ n) ⊎ ((w ≤ n) × (min n w ≡ w)) → min (value_behind (min n w) ds) w ≡ min (value_behind n ds) w
     by_size (inl e) = ap (λ (i : ℕ). min (value_behind i ds) w) e
     by_size (inr h) = omega (arith, grows n ds, grows (min n w) ds)

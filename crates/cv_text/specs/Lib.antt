@@ -8,3 +8,4 @@ pub mod Seen
 pub mod Reader
 pub mod Given
 pub mod NarrowReader
+pub mod WholeParts

@@ -1,6 +1,8 @@
 -- Reading a straight-line program.
-use Rattle.std.specs.Prelude.{ℕ, ◌^◌, List, [], ◌∷◌, ◌++◌, codes, Result, Ok, Err, Some, Bool, true, false, if◌then◌else◌, ℤ}
+use Rattle.std.specs.Prelude.{ℕ, List, [], ◌∷◌, ◌++◌, codes, Result, Ok, Err, Some, true, false, if◌then◌else◌}
 use Rattle.cv_core.specs.declared.program.Program.{Program}
+use Rattle.cv_core.specs.declared.program.Proc.{Proc}
+use Rattle.cv_core.specs.declared.program.ResultKind.TheVariants as answer
 use Rattle.cv_core.specs.declared.program.Local.{Local}
 use Rattle.cv_core.specs.declared.program.Stmt.{Stmt}
 use Rattle.cv_core.specs.declared.program.Form.{Form}
@@ -15,7 +17,7 @@ use Rattle.cv_text.specs.declared.narrow.Step.{Step}
 use Rattle.cv_text.specs.declared.narrow.Step.TheVariants as step
 use Rattle.cv_text.specs.Tokens.{Lexeme}
 use Rattle.cv_text.specs.Reader.{is_word, is_mark, the_name, the_word, the_mark, a_name, count, size, number, semicolon}
-use Rattle.cv_text.specs.Narrow.{buffer_local, pointer_local, main_alone}
+use Rattle.cv_text.specs.Narrow.{buffer_local, pointer_local, main_alone, no_contract}
 
 -- ---- statements
 
@@ -101,3 +103,6 @@ narrow = count & λ _. heading_and_body
 
 abbrev pub program_of : ℕ × (Locals × List Stmt) → Program
 program_of v = main_alone v.0 (locals_of v.1.0) v.1.1
+
+abbrev pub main_of : ℕ × (Locals × List Stmt) → Proc
+main_of v = record { line = v.0; answer = answer.Int; name = codes "main"; formals = []; contract = no_contract; body = Some (record { locals = locals_of v.1.0; stmts = v.1.1 }) }

@@ -1,15 +1,12 @@
 -- Reading single tokens, numbers and operands.
-use Rattle.std.specs.Prelude.{◌≡◌, ℕ, zero, suc, ◌+◌, ◌^◌, Bool, true, false, if◌then◌else◌, ◌&&◌, nat_eq, nat_lt, nat_le, List, [], ◌∷◌, Option, Some, None, ℤ, pos, neg_ℤ}
+use Rattle.std.specs.Prelude.{ℕ, ◌+◌, ◌^◌, Bool, false, if◌then◌else◌, ◌&&◌, nat_lt, nat_le, List, Option, Some, None, ℤ, pos, neg_ℤ}
 use Rattle.std.specs.Str.{bytes_eq}
-use Rattle.cv_core.specs.declared.program.Operand.{Operand}
-use Rattle.cv_core.specs.declared.program.Operand.TheVariants as operand
-use Rattle.cv_reading.specs.Reading.{Reading, token, exactly, choose, made, on, ◌◁◌}
+use Rattle.cv_reading.specs.Reading.{Reading, token, exactly, made, on}
 use Rattle.cv_text.specs.declared.token.Key.{Key}
-use Rattle.cv_text.specs.declared.token.Key.TheVariants as key
 use Rattle.cv_text.specs.declared.token.Sign.{Sign}
 use Rattle.cv_text.specs.declared.token.Sign.TheVariants as sign
 use Rattle.cv_text.specs.Spelling.{key_text, sign_text}
-use Rattle.cv_text.specs.Tokens.{Lexeme, name, word, digits, mark, other, value_of}
+use Rattle.cv_text.specs.Tokens.{Lexeme, name, word, digits, mark, value_of}
 
 -- ---- which token it is
 

@@ -110,12 +110,7 @@ fn value_within(digits: &[u8], low: u32, high: u32) -> Option<u32>
 
 /// The value of the digits that have to stand next, from `low` up to below `high`, and the place behind them.
 #[tactic(auto, unfolding(crate::specs::Reader::digits_within))]
-pub fn digits_within(
-    text: &[u8],
-    at: usize,
-    low: u32,
-    high: u32,
-) -> Result<(u32, usize), ReadError>
+pub fn digits_within(text: &[u8], at: usize, low: u32, high: u32) -> Result<(u32, usize), ReadError>
     ensures value { Gives text.now (λ x. (x.0, x.1)) result (reader.digits_within low high (from text.now at)) }
     ensures bound { IfOk result (λ x. x.0 < high) }
 {

@@ -6,4 +6,5 @@ mod lexer;
 mod narrow;
 mod token;
 
+pub use narrow::read_narrow;
 pub use token::{Key, Sign};

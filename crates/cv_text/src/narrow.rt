@@ -1,14 +1,24 @@
 //! Reading straight-line programs.
 
-ghost use Rattle.std.specs.Prelude.{◌≡◌, ◌↔◌, ◌≤◌, [], length, IsTrue};
+ghost use Rattle.std.specs.Prelude.{◌≡◌, ◌↔◌, ◌≤◌, [], length, IsTrue, IfOk, IfSome};
+ghost use Rattle.cv_core.specs.Grammar.{IsWritten};
+ghost use Rattle.cv_core.specs.declared.program.Program.{Program};
+ghost use Rattle.cv_text.specs.Whole.{Spells};
+ghost use Rattle.cv_text.specs.Narrow.{IsNarrow};
+ghost use Rattle.cv_text.specs.WholeParts.{IsWhole};
 ghost use Rattle.cv_text.specs.NarrowReader as spec;
 ghost use Rattle.cv_text.specs.Given.{Gives, from};
 
-use crate::cursor::{ReadError, a_name, count, number, semicolon, size, the_mark, the_name, the_word};
+use crate::cursor::{
+    ReadError, a_name, count, number, semicolon, size, the_mark, the_name, the_word,
+};
 use crate::lexer::next_token;
 use crate::token::{Key, Sign, Token};
-use cv_core::{AnyOperand, Bytes, Form, List, Operand, Stmt};
-use std::alloc::Global;
+use cv_core::{
+    AnyOperand, Bytes, Contract, Form, List, Local, LocalBody, Operand, Proc, ProcBody, Program,
+    ResultKind, Stmt, VarKind,
+};
+use std::alloc::{AllocError, Global};
 
 /// The two locals of a straight-line program.
 #[derive(Debug, Drop)]
@@ -28,7 +38,13 @@ fn store(alloc: Global, text: &[u8], at: usize, p: &[u8]) -> Result<(Form, usize
     let (k, at) = number(text, at)?;
     let at = semicolon(text, at)?;
     let p = List::from_slice(alloc, p)?;
-    Ok((Form::Store { p, e: Operand::Number(k) }, at))
+    Ok((
+        Form::Store {
+            p,
+            e: Operand::Number(k),
+        },
+        at,
+    ))
 }
 
 #[tactic(auto, unfolding(crate::specs::NarrowReader::address))]
@@ -58,7 +74,14 @@ fn shift(alloc: Global, text: &[u8], at: usize, p: &[u8]) -> Result<(Form, usize
     let at = semicolon(text, at)?;
     let q = List::from_slice(alloc, p)?;
     let p = List::from_slice(alloc, p)?;
-    Ok((Form::Shift { p, q, e: Operand::Number(k) }, at))
+    Ok((
+        Form::Shift {
+            p,
+            q,
+            e: Operand::Number(k),
+        },
+        at,
+    ))
 }
 
 #[tactic(auto, unfolding(crate::specs::NarrowReader::assignment))]
@@ -165,7 +188,15 @@ fn buffer_first(alloc: Global, text: &[u8], at: usize) -> Result<(Locals, usize)
     let ((buffer, size), at) = buffer(alloc, text, at)?;
     let at = the_word(text, at, Key::Ptr)?;
     let (pointer, at) = pointer(alloc, text, at)?;
-    Ok((Locals { buffer, size, pointer, buffer_first: true }, at))
+    Ok((
+        Locals {
+            buffer,
+            size,
+            pointer,
+            buffer_first: true,
+        },
+        at,
+    ))
 }
 
 #[tactic(auto, unfolding(crate::specs::NarrowReader::pointer_first))]
@@ -176,7 +207,15 @@ fn pointer_first(alloc: Global, text: &[u8], at: usize) -> Result<(Locals, usize
     let (pointer, at) = pointer(alloc, text, at)?;
     let at = the_word(text, at, Key::Buf)?;
     let ((buffer, size), at) = buffer(alloc, text, at)?;
-    Ok((Locals { buffer, size, pointer, buffer_first: false }, at))
+    Ok((
+        Locals {
+            buffer,
+            size,
+            pointer,
+            buffer_first: false,
+        },
+        at,
+    ))
 }
 
 #[tactic(auto, unfolding(crate::specs::NarrowReader::locals))]
@@ -218,11 +257,7 @@ fn statements(
 }
 
 #[tactic(auto, unfolding(crate::specs::NarrowReader::body))]
-fn body(
-    alloc: Global,
-    text: &[u8],
-    at: usize,
-) -> Result<((Locals, List<Stmt>), usize), ReadError>
+fn body(alloc: Global, text: &[u8], at: usize) -> Result<((Locals, List<Stmt>), usize), ReadError>
     ensures { Gives text.now (λ x. (x.0, x.1)) result (spec.body (from text.now at)) }
 {
     let (locals, at) = two_locals(alloc, text, at)?;
@@ -254,7 +289,14 @@ fn all_parts(alloc: Global, text: &[u8]) -> Result<(Parts, usize), ReadError>
     let at = the_mark(text, at, Sign::Close)?;
     let at = the_mark(text, at, Sign::OpenBrace)?;
     let ((locals, stmts), at) = body(alloc, text, at)?;
-    Ok((Parts { line, locals, stmts }, at))
+    Ok((
+        Parts {
+            line,
+            locals,
+            stmts,
+        },
+        at,
+    ))
 }
 
 fn same_names(a: &[u8], b: &[u8]) -> bool
@@ -267,4 +309,101 @@ fn is_at_end(text: &[u8], at: usize) -> bool
     ensures { IsTrue result ↔ (from text.now at ≡ []) }
 {
     next_token(text, at).token.is_none()
+}
+
+fn the_locals(alloc: Global, locals: Locals) -> Result<List<Local>, AllocError>
+    ensures { IfOk result (λ ls. ls ≡ spec.locals_of locals) }
+{
+    let Locals {
+        buffer,
+        size,
+        pointer,
+        buffer_first,
+    } = locals;
+    let buffer = Local {
+        name: buffer,
+        body: LocalBody::Buffer(size),
+    };
+    let pointer = Local {
+        name: pointer,
+        body: LocalBody::Var(VarKind::Ptr),
+    };
+    let mut both = List::new(alloc);
+    if buffer_first {
+        both.push(buffer)?;
+        both.push(pointer)?;
+    } else {
+        both.push(pointer)?;
+        both.push(buffer)?;
+    }
+    Ok(both)
+}
+
+fn main_of(alloc: Global, parts: Parts) -> Result<Proc, AllocError>
+    ensures { IfOk result (λ f. f ≡ spec.main_of (parts.line, (parts.locals, parts.stmts))) }
+{
+    let Parts {
+        line,
+        locals,
+        stmts,
+    } = parts;
+    let locals = the_locals(alloc, locals)?;
+    Ok(Proc {
+        line,
+        answer: ResultKind::Int,
+        name: List::from_slice(alloc, b"main")?,
+        formals: List::new(alloc),
+        contract: Contract {
+            listed: List::new(alloc),
+            needs: List::new(alloc),
+            changes: List::new(alloc),
+            gives: List::new(alloc),
+        },
+        body: Some(ProcBody { locals, stmts }),
+    })
+}
+
+fn program_of(alloc: Global, parts: Parts) -> Result<Program, AllocError>
+    requires { IsWritten (spec.program_of (parts.line, (parts.locals, parts.stmts))) }
+    ensures { IfOk result (λ p. p ≡ spec.program_of (parts.line, (parts.locals, parts.stmts))) }
+{
+    let main = main_of(alloc, parts)?;
+    let mut procs = List::new(alloc);
+    procs.push(main)?;
+    Ok(Program {
+        globals: List::new(alloc),
+        literals: List::new(alloc),
+        procs,
+    })
+}
+
+/// The greatest number of statements of a straight-line program.
+const STATEMENTS: usize = 100;
+
+/// Whether the parts end with the text, the two names differ, and the statements are not too many.
+fn is_whole(text: &[u8], at: usize, parts: &Parts) -> bool
+    ensures { IsTrue result ↔ IsWhole text.now at parts.now.locals parts.now.stmts }
+{
+    let buffer = parts.locals.buffer.as_slice();
+    let pointer = parts.locals.pointer.as_slice();
+    is_at_end(text, at) && !same_names(buffer, pointer) && parts.stmts.len() <= STATEMENTS
+}
+
+/// The straight-line program that the text spells; None exactly where it spells none. An error is want of memory.
+pub fn read_narrow(alloc: Global, text: &[u8]) -> Result<Option<Program>, AllocError>
+    // What is given is spelled by the text, and is a straight-line program.
+    ensures spelled { IfOk result (λ o. IfSome o (λ p. Spells text.now p × IsNarrow p)) }
+    // Where the text spells a straight-line program, that one is given.
+    ensures only { (p : Program) → Spells text.now p → IsNarrow p → IfOk result (λ o. o ≡ Some p) }
+{
+    let (parts, at) = match all_parts(alloc, text) {
+        Ok(found) => found,
+        Err(ReadError::Memory) => return Err(AllocError),
+        Err(ReadError::Fault(_)) => return Ok(None),
+    };
+    if !is_whole(text, at, &parts) {
+        return Ok(None);
+    }
+    let program = program_of(alloc, parts)?;
+    Ok(Some(program))
 }

@@ -1,4 +1,4 @@
-use Rattle.std.proofs.Common.{◌≡◌, ◌^◌, arith}
+use Rattle.std.proofs.Common.{◌^◌, arith}
 use Rattle.cv_text.proofs.Values.{keeps}
 use Rattle.cv_text.proofs.cursor.value_up_to_wide.Goals as goal
 

@@ -1,7 +1,7 @@
-use Rattle.std.proofs.Common.{◌≡◌, ◌++◌, ◌∷◌, [], List, sym, ap, subst, ◌∙◌, Ok, Err}
+use Rattle.std.proofs.Common.{sym, ap, subst, ◌∙◌, Ok}
 use Rattle.std.proofs.lemmas.Result.{err_from_is_err_and}
 use Rattle.cv_text.specs.Given.{from, Fails}
-use Rattle.cv_text.specs.NarrowReader.{step_of, statement, statements, statements_onto}
+use Rattle.cv_text.specs.NarrowReader.{step_of, statements, statements_onto}
 use Rattle.cv_text.proofs.Straight.{goes, ends, fails_as, shorter}
 use Rattle.cv_text.proofs.narrow.statements.Goals as goal
 
