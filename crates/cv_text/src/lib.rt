@@ -4,6 +4,8 @@
 mod cursor;
 mod lexer;
 mod narrow;
+#[cfg(test)]
+mod tests;
 mod token;
 
 pub use narrow::read_narrow;
