@@ -15,7 +15,7 @@ use Rattle.cv_core.specs.declared.program.Rel.TheVariants as rel
 use Rattle.cv_text.specs.declared.token.Key.TheVariants as key
 use Rattle.cv_text.specs.declared.token.Sign.TheVariants as sign
 use Rattle.cv_text.specs.Tokens.{Line}
-use Rattle.cv_text.specs.Phrase.{nothing, ◌⋅◌, Following}
+use Rattle.cv_reading.specs.Phrase.{nothing, ◌⋅◌, Following}
 use Rattle.cv_text.specs.Grammar.{Name, Word, Mark, Count, Equality, Relation, end}
 
 -- a word of a contract, with what stands in brackets behind it

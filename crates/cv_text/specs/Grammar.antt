@@ -1,5 +1,5 @@
 -- The grammar of CoreC: which lines of tokens spell which tree. It knows no reader.
-use Rattle.std.specs.Prelude.{◌≡◌, ℕ, ◌+◌, ◌<◌, ◌≤◌, ◌^◌, Bool, true, false, if◌then◌else◌, List, [], ◌∷◌, Option, Some, None, ℤ, pos, neg_ℤ, ◌⊎◌}
+use Rattle.std.specs.Prelude.{◌≡◌, ℕ, ◌+◌, ◌<◌, ◌≤◌, ◌^◌, Bool, true, false, if◌then◌else◌, List, [], ◌∷◌, Some, None, ℤ, pos, neg_ℤ, ◌⊎◌}
 use Rattle.std.specs.Str.{bytes_eq}
 use Rattle.cv_core.specs.declared.program.GlobalDecl.{GlobalDecl}
 use Rattle.cv_core.specs.declared.program.GlobalBody.{GlobalBody}
@@ -27,7 +27,7 @@ use Rattle.cv_text.specs.declared.token.Key.TheVariants as key
 use Rattle.cv_text.specs.declared.token.Sign.{Sign}
 use Rattle.cv_text.specs.declared.token.Sign.TheVariants as sign
 use Rattle.cv_text.specs.Tokens.{name, word, digits, mark, Line, value_of}
-use Rattle.cv_text.specs.Phrase.{one, nothing, ◌⋅◌, Separated}
+use Rattle.cv_reading.specs.Phrase.{one, ◌⋅◌, Separated}
 
 -- ---- single tokens
 
@@ -97,27 +97,19 @@ abbrev pub Equality : Bool → Line → Type 0
 Equality true = Mark sign.Equal
 Equality false = Mark sign.NotEqual
 
--- null is compared with a name alone, and only by == and !=
-abbrev pub Comparison : Operand → Rel → AnyOperand → Line → Type 0
-Comparison e r (any.Operand f) = Value e ⋅ Relation r ⋅ Value f
-Comparison (operand.Var p) rel.Eq any.Null = Name p ⋅ Mark sign.Equal ⋅ Word key.Null
-Comparison (operand.Var p) rel.Ne any.Null = Name p ⋅ Mark sign.NotEqual ⋅ Word key.Null
-Comparison e r any.Null = λ _. ⊥
-
 -- the single digit 0
 abbrev pub Zero : Line → Type 0
 Zero = one (digits (48 ∷ []))
 
 -- ---- statements
 
-abbrev pub Into : Option (List ℕ) → Line → Type 0
-Into None = nothing
-Into (Some x) = Name x ⋅ Mark sign.Assign
-
 abbrev pub Jump : ℕ → Line → Type 0
 Jump to = Word key.Goto ⋅ Count to ⋅ end
 
--- what the statement says, whatever is declared
+abbrev pub CallPhrase : List ℕ → List AnyOperand → Line → Type 0
+CallPhrase f args = Word key.Call ⋅ Name f ⋅ Mark sign.Open ⋅ Separated (Mark sign.Comma) Any args ⋅ Mark sign.Close ⋅ end
+
+-- What the statement says, whatever is declared. Null is compared with a name alone, and only by == and !=.
 abbrev pub Phrase : Form → Line → Type 0
 Phrase (form.Assign x e) = Name x ⋅ Mark sign.Assign ⋅ Value e ⋅ end
 Phrase (form.Sum x e f) = Name x ⋅ Mark sign.Assign ⋅ Value e ⋅ Mark sign.Plus ⋅ Value f ⋅ end
@@ -135,9 +127,13 @@ Phrase (form.Get x w) = Name x ⋅ Mark sign.Assign ⋅ Word key.Get ⋅ Name w 
 Phrase (form.Put w e) = Word key.Put ⋅ Name w ⋅ Mark sign.Comma ⋅ Any e ⋅ end
 Phrase (form.Diff x p q) = Name x ⋅ Mark sign.Assign ⋅ Word key.Diff ⋅ Name p ⋅ Mark sign.Comma ⋅ Name q ⋅ end
 Phrase (form.Goto to) = Jump to
-Phrase (form.If e r f to) = Word key.If ⋅ Comparison e r f ⋅ Jump to
+Phrase (form.If e r (any.Operand f) to) = Word key.If ⋅ Value e ⋅ Relation r ⋅ Value f ⋅ Jump to
+Phrase (form.If (operand.Var p) rel.Eq any.Null to) = Word key.If ⋅ Name p ⋅ Mark sign.Equal ⋅ Word key.Null ⋅ Jump to
+Phrase (form.If (operand.Var p) rel.Ne any.Null to) = Word key.If ⋅ Name p ⋅ Mark sign.NotEqual ⋅ Word key.Null ⋅ Jump to
+Phrase (form.If e r any.Null to) = λ _. ⊥
 Phrase (form.IfByte p equal to) = Word key.If ⋅ Word key.Load ⋅ Name p ⋅ Equality equal ⋅ Zero ⋅ Jump to
-Phrase (form.Call into f args) = Into into ⋅ Word key.Call ⋅ Name f ⋅ Mark sign.Open ⋅ Separated (Mark sign.Comma) Any args ⋅ Mark sign.Close ⋅ end
+Phrase (form.Call None f args) = CallPhrase f args
+Phrase (form.Call (Some x) f args) = Name x ⋅ Mark sign.Assign ⋅ CallPhrase f args
 Phrase (form.Return None) = Word key.Return ⋅ end
 Phrase (form.Return (Some e)) = Word key.Return ⋅ Any e ⋅ end
 
@@ -189,12 +185,12 @@ variables_of [] = []
 variables_of (l ∷ ls) = elim l.body [ local.Var k ↦ record { kind = k; name = l.name } ∷ variables_of ls | _ ↦ variables_of ls ]
 
 abbrev pub GlobalPhrase : List ℕ → GlobalBody → Line → Type 0
-GlobalPhrase x (global.Buffer n) = Word key.Buf ⋅ Name x ⋅ Size n
-GlobalPhrase x global.Pointer = Word key.Ptr ⋅ Name x
-GlobalPhrase x global.Int = Word key.Int ⋅ Name x
+GlobalPhrase x (global.Buffer n) = Word key.Buf ⋅ Name x ⋅ Size n ⋅ end
+GlobalPhrase x global.Pointer = Word key.Ptr ⋅ Name x ⋅ end
+GlobalPhrase x global.Int = Word key.Int ⋅ Name x ⋅ end
 
 abbrev pub GlobalText : GlobalDecl → Line → Type 0
-GlobalText g = Word key.Global ⋅ GlobalPhrase g.name g.body ⋅ end
+GlobalText g = Word key.Global ⋅ GlobalPhrase g.name g.body
 
 abbrev pub LiteralText : Literal → Line → Type 0
 LiteralText l = Word key.Literal ⋅ Name l.name ⋅ Mark sign.OpenBrace ⋅ Separated (Mark sign.Comma) Byte l.bytes ⋅ Mark sign.CloseBrace ⋅ end

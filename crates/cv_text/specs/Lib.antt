@@ -1,7 +1,11 @@
 pub mod Spelling
 pub mod Tokens
-pub mod Phrase
 pub mod Grammar
 pub mod Clauses
 pub mod Whole
 pub mod Narrow
+pub mod Seen
+pub mod Reader
+pub mod Given
+pub mod NarrowReader
+pub mod WholeParts

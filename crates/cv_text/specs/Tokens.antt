@@ -1,5 +1,5 @@
 -- The tokens of a text: at each place the longest one is taken.
-use Rattle.std.specs.Prelude.{ℕ, zero, suc, ◌+◌, ◌-◌, ◌*◌, Bool, ◌||◌, if◌then◌else◌, nat_eq, List, [], ◌∷◌, drop, length, find, Option, Some, None}
+use Rattle.std.specs.Prelude.{ℕ, zero, suc, ◌+◌, ◌-◌, ◌*◌, Bool, ◌||◌, if◌then◌else◌, nat_eq, List, [], ◌∷◌, drop, length, take_while, find, Option, Some, None}
 use Rattle.std.specs.List.{list_any, starts_with}
 use Rattle.std.specs.Str.{bytes_eq}
 use Rattle.cv_core.specs.Grammar.{is_letter, is_digit}
@@ -27,14 +27,9 @@ is_blank c = nat_eq c 32 || nat_eq c 9 || nat_eq c 10 || nat_eq c 13
 abbrev pub is_name_byte : ℕ → Bool
 is_name_byte c = is_letter c || is_digit c
 
--- the bytes before the first that fails the test, and those from it on
-abbrev pub run_of : (ℕ → Bool) → List ℕ → List ℕ
-run_of test [] = []
-run_of test (c ∷ cs) = if test c then c ∷ run_of test cs else []
-
-abbrev pub after_run : (ℕ → Bool) → List ℕ → List ℕ
-after_run test [] = []
-after_run test (c ∷ cs) = if test c then after_run test cs else c ∷ cs
+-- how many bytes pass the test before the first that fails it
+abbrev pub run : (ℕ → Bool) → List ℕ → ℕ
+run test text = length (take_while test text)
 
 -- ---- one token
 
@@ -47,31 +42,35 @@ key_of text = find (λ k. bytes_eq text (key_text k)) keys
 abbrev pub sign_at : List ℕ → Option Sign
 sign_at text = find (λ s. begins text (sign_text s)) signs
 
-abbrev pub worded : List ℕ → Option Key → Lexeme
-worded text None = name text
-worded text (Some k) = word k
+-- a name, where the bytes are none of the words
+abbrev pub name_or : List ℕ → Option Key → Lexeme
+name_or text None = name text
+name_or text (Some k) = word k
 
-abbrev pub marked : List ℕ → Option Sign → Lexeme × List ℕ
-marked text None = (other, drop 1 text)
-marked text (Some s) = (mark s, drop (length (sign_text s)) text)
+abbrev pub sign_or : Option Sign → Lexeme × ℕ
+sign_or None = (other, 1)
+sign_or (Some s) = (mark s, length (sign_text s))
 
--- The token with which a text begins, c being the first byte, and the bytes behind it.
-abbrev pub token_at : ℕ → List ℕ → Lexeme × List ℕ
-token_at c text = if list_any (begins text) foreign then (other, drop 1 text)
-    else if is_letter c then (worded (run_of is_name_byte text) (key_of (run_of is_name_byte text)), after_run is_name_byte text)
-    else if is_digit c then (digits (run_of is_digit text), after_run is_digit text)
-    else marked text (sign_at text)
+-- The token with which a text begins, c being the first byte, and how many bytes it has.
+abbrev pub token_at : ℕ → List ℕ → Lexeme × ℕ
+token_at c text = if list_any (begins text) foreign then (other, 1)
+    else if is_letter c then (name_or (take_while is_name_byte text) (key_of (take_while is_name_byte text)), run is_name_byte text)
+    else if is_digit c then (digits (take_while is_digit text), run is_digit text)
+    else sign_or (sign_at text)
 
 -- ---- all tokens
 
 abbrev pub front_token : (List ℕ → Line) → List ℕ → Line
 front_token others [] = []
-front_token others (c ∷ cs) = (token_at c (c ∷ cs)).0 ∷ others (token_at c (c ∷ cs)).1
+front_token others (c ∷ cs) = (token_at c (c ∷ cs)).0 ∷ others (drop (token_at c (c ∷ cs)).1 (c ∷ cs))
+
+abbrev pub past_blanks : List ℕ → List ℕ
+past_blanks text = drop (run is_blank text) text
 
 -- the first n tokens
 abbrev pub first_tokens : ℕ → List ℕ → Line
 first_tokens zero text = []
-first_tokens (suc n) text = front_token (first_tokens n) (after_run is_blank text)
+first_tokens (suc n) text = front_token (first_tokens n) (past_blanks text)
 
 -- Each token has a byte, so that there are no more tokens than bytes.
 unfoldable pub lexemes : List ℕ → Line

@@ -7,7 +7,7 @@ use Rattle.cv_core.specs.declared.program.Formal.{Formal}
 use Rattle.cv_text.specs.declared.token.Key.TheVariants as key
 use Rattle.cv_text.specs.declared.token.Sign.TheVariants as sign
 use Rattle.cv_text.specs.Tokens.{Line, lexemes}
-use Rattle.cv_text.specs.Phrase.{◌⋅◌, Each, Separated}
+use Rattle.cv_reading.specs.Phrase.{◌⋅◌, Each, Separated}
 use Rattle.cv_text.specs.Grammar.{Name, Word, Mark, Count, Answer, FormalText, LocalText, variables_of, Statement, GlobalText, LiteralText, end}
 use Rattle.cv_text.specs.Clauses.{ContractText}
 

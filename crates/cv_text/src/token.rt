@@ -58,6 +58,17 @@ pub enum Sign {
     CloseBrace,
 }
 
+/// A token of a text, as it stands there.
+#[derive(Clone, Copy, Debug)]
+pub enum Token<'a> {
+    Name(&'a [u8]),
+    Word(Key),
+    Digits(&'a [u8]),
+    Mark(Sign),
+    /// What no text of the grammar has.
+    Other,
+}
+
 /// The bytes of a word.
 pub fn key_bytes(key: Key) -> &'static [u8]
     ensures { result.now ≡ key_text key }
