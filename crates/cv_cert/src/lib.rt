@@ -3,6 +3,8 @@
 
 mod certificate;
 mod fault;
+mod lines;
+mod tokens;
 
 pub use certificate::{Block, Cert, CertCase};
 pub use fault::CertError;
