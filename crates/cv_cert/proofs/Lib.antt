@@ -1,2 +1,4 @@
 pub mod Splits
 pub mod Numbers
+pub mod Found
+pub mod Laws

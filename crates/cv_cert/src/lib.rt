@@ -3,6 +3,7 @@
 
 mod certificate;
 mod fault;
+mod fields;
 mod lines;
 mod tokens;
 
