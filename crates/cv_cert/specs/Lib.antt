@@ -3,3 +3,4 @@ pub mod Text
 pub mod Reading
 pub mod Tokens
 pub mod Lines
+pub mod Views

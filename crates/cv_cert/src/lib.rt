@@ -4,7 +4,11 @@
 mod certificate;
 mod fault;
 mod fields;
+mod grammar;
+mod kinds;
 mod lines;
+mod names;
+mod order;
 mod tokens;
 
 pub use certificate::{Block, Cert, CertCase};
