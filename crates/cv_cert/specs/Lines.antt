@@ -150,8 +150,11 @@ statement n = one_line (statement_of n) >>= rows_or_picks
 unfoldable pub statements : Reading (List (List Row) × List ℕ)
 statements = many statement (λ n rs. suc n) 0
 
+unfoldable pub step_lines : ℕ → Reading (List Step)
+step_lines n = each {A = Step} {S = Unit {0}} (λ left s. one_line step_of) (λ s x. tt) n tt
+
 unfoldable pub steps : Reading (List Step)
-steps = one_line (count_of (codes "steps")) >>= λ n. each {A = Step} {S = Unit {0}} (λ left s. one_line step_of) (λ s x. tt) n tt
+steps = one_line (count_of (codes "steps")) >>= λ n. step_lines n
 
 unfoldable pub a_case : ℕ → Reading CertCase
 a_case n = one_line (λ line. if_true (is_case n line)) >>= λ _. statements >>= λ p. steps >>= λ ss. give (record { rows = p.0; picks = p.1; steps = ss })
@@ -169,8 +172,11 @@ block = one_line heading_of >>= block_or_end
 unfoldable pub blocks : Reading (List Block × Unit {0})
 blocks = many {A = Block} {E = Unit {0}} {S = Unit {0}} (λ s. block) (λ s b. tt) tt
 
+unfoldable pub set_lines : ℕ → Reading (List (List ℕ))
+set_lines n = each {A = List ℕ} {S = Unit {0}} (λ left s. one_line set_of) (λ s x. tt) n tt
+
 unfoldable pub sets : Reading (List (List ℕ))
-sets = one_line (count_of (codes "points")) >>= λ n. each {A = List ℕ} {S = Unit {0}} (λ left s. one_line set_of) (λ s x. tt) n tt
+sets = one_line (count_of (codes "points")) >>= λ n. set_lines n
 
 unfoldable pub certificate : Reading Certificate
 certificate = one_line (λ line. if_true (is_header line)) >>= λ _. sets >>= λ ss. blocks >>= λ bs. give (record { sets = ss; blocks = bs.0 })

@@ -1,15 +1,16 @@
 //! The kinds of lines.
-ghost use Rattle.std.specs.Prelude.{◌≡◌, IfOk, option_map};
+ghost use Rattle.std.specs.Prelude.{◌≡◌, IfOk, option_map, Some};
 ghost use Rattle.cv_cert.specs.Reading.{tokens_of};
 ghost use Rattle.cv_cert.specs.Lines as spec;
-ghost use Rattle.cv_cert.specs.Views.{statement_line as statement_line_view, heading as heading_view};
+ghost use Rattle.cv_cert.specs.Views.{statement_line as statement_line_view, heading as heading_view, last_row};
 
 use crate::fields::{ascending, numbers, pairs, parts};
 use crate::names::is_name;
+use crate::order::{has_room, is_after};
 use crate::tokens::{after_word, integer, next_token, number};
 use cv_core::{Bytes, List};
 use cv_farkas::Step;
-use cv_num::{Row, RowError, row as made_row};
+use cv_num::{Row, RowError, row};
 use std::alloc::{AllocError, Global};
 
 /// Whether a line is `cssv-cert 1`.
@@ -154,9 +155,24 @@ pub(crate) fn statement_line(
     }
 }
 
+/// The row of these pairs and this constant, where the pairs are canonical.
+fn canonical_row(
+    alloc: Global,
+    pairs: &[(u32, i64)],
+    constant: i64,
+) -> Result<Option<Row>, AllocError>
+    ensures { IfOk result (λ found. found ≡ spec.if_canonical (Some (spec.made_row constant pairs.now))) }
+{
+    match row(alloc, pairs, constant) {
+        Ok(made) => Ok(Some(made)),
+        Err(RowError::Pairs) => Ok(None),
+        Err(RowError::Memory) => Err(AllocError),
+    }
+}
+
 /// The row of a line `row ..`.
 #[tactic(auto, unfolding(crate::specs::Lines::row_of))]
-fn row(alloc: Global, line: &[u8]) -> Result<Option<Row>, AllocError>
+fn row_line(alloc: Global, line: &[u8]) -> Result<Option<Row>, AllocError>
     ensures { IfOk result (λ found. found ≡ spec.row_of (tokens_of line.now)) }
 {
     let Some(rest) = after_word(line, b"row") else {
@@ -171,11 +187,7 @@ fn row(alloc: Global, line: &[u8]) -> Result<Option<Row>, AllocError>
     let Some(found) = pairs(alloc, rest)? else {
         return Ok(None);
     };
-    match made_row(alloc, found.as_slice(), constant) {
-        Ok(made) => Ok(Some(made)),
-        Err(RowError::Pairs) => Ok(None),
-        Err(RowError::Memory) => Err(AllocError),
-    }
+    canonical_row(alloc, found.as_slice(), constant)
 }
 
 /// The step of a line `step ..`.
@@ -243,6 +255,26 @@ pub(crate) fn heading_line(alloc: Global, line: &[u8]) -> Result<Option<Heading>
     }
     if is_end(line) {
         Ok(Some(Heading::End))
+    } else {
+        Ok(None)
+    }
+}
+
+/// The row of a line `row ..` that may stand behind the last of `before`, with `left` rows more to come.
+#[tactic(auto, unfolding(crate::specs::Lines::next_row_of))]
+pub(crate) fn next_row(
+    alloc: Global,
+    line: &[u8],
+    before: &[Row],
+    left: u32,
+) -> Result<Option<Row>, AllocError>
+    ensures { IfOk result (λ found. found ≡ spec.next_row_of left (last_row before.now) (tokens_of line.now)) }
+{
+    let Some(found) = row_line(alloc, line)? else {
+        return Ok(None);
+    };
+    if is_after(before, &found) && has_room(left, found.pairs.as_slice()) {
+        Ok(Some(found))
     } else {
         Ok(None)
     }

@@ -19,6 +19,13 @@ fn is_name_byte(byte: u8) -> bool
     is_letter(byte) || matches!(byte, b'0'..=b'9')
 }
 
+/// Whether all bytes may stand in a name.
+fn are_name_bytes(bytes: &[u8]) -> bool
+    ensures { result ≡ list_all (λ d. letter d || digit d) bytes.now }
+{
+    bytes.iter().all(|byte| is_name_byte(*byte))
+}
+
 /// Whether a token begins as a name and has only bytes of names.
 fn begins_name(token: &[u8]) -> bool
     ensures { result ≡ begins token.now }
@@ -26,7 +33,7 @@ fn begins_name(token: &[u8]) -> bool
     let [first, others @ ..] = token else {
         return false;
     };
-    is_letter(*first) && others.iter().all(|byte| is_name_byte(*byte))
+    is_letter(*first) && are_name_bytes(others)
 }
 
 /// Whether a token is this word.
