@@ -5,3 +5,5 @@ pub mod Laws
 pub mod RowOrder
 pub mod Loops
 pub mod LineLaws
+pub mod RowRoom
+pub mod Phrases
