@@ -7,3 +7,6 @@ pub mod Loops
 pub mod LineLaws
 pub mod RowRoom
 pub mod Phrases
+pub mod ManyLoops
+pub mod Clean
+pub mod Joined

@@ -1,5 +1,6 @@
 pub mod Certificate
 pub mod Text
+pub mod Wrong
 pub mod Reading
 pub mod Tokens
 pub mod Lines

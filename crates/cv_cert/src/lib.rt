@@ -9,7 +9,9 @@ mod kinds;
 mod lines;
 mod names;
 mod order;
+mod read;
 mod tokens;
 
 pub use certificate::{Block, Cert, CertCase};
 pub use fault::CertError;
+pub use read::read_cert;
