@@ -1,0 +1,12 @@
+pub mod Splits
+pub mod Numbers
+pub mod Found
+pub mod Laws
+pub mod RowOrder
+pub mod Loops
+pub mod LineLaws
+pub mod RowRoom
+pub mod Phrases
+pub mod ManyLoops
+pub mod Clean
+pub mod Joined

@@ -1,5 +1,7 @@
 pub mod Certificate
 pub mod Text
+pub mod Wrong
 pub mod Reading
 pub mod Tokens
 pub mod Lines
+pub mod Views

@@ -23,15 +23,25 @@ abbrev pub tail_of : List ℕ → Line → Option Line
 tail_of word [] = None
 tail_of word (t ∷ ts) = if bytes_eq t word then Some ts else None
 
-abbrev pub same_line : Line → Line → Bool
-same_line [] [] = true
-same_line [] (u ∷ us) = false
-same_line (t ∷ ts) [] = false
-same_line (t ∷ ts) (u ∷ us) = bytes_eq t u && same_line ts us
+-- that there is nothing behind a word
+abbrev pub ends : Option Line → Bool
+ends None = false
+ends (Some []) = true
+ends (Some (t ∷ ts)) = false
 
--- a line that is just this one
-abbrev pub fixed_of : Line → Line → Option (Unit {0})
-fixed_of wanted line = if same_line line wanted then Some tt else None
+abbrev pub if_true : Bool → Option (Unit {0})
+if_true b = if b then Some tt else None
+
+-- what stands behind the first token, where that is this word
+abbrev pub tail_behind : List ℕ → Option Line → Option Line
+tail_behind word None = None
+tail_behind word (Some ts) = tail_of word ts
+
+unfoldable pub is_header : Line → Bool
+is_header line = ends (tail_behind (codes "1") (tail_of (codes "cssv-cert") line))
+
+unfoldable pub is_end : Line → Bool
+is_end line = ends (tail_of (codes "end") line)
 
 abbrev pub only_number : Line → Option ℕ
 only_number [] = None
@@ -42,12 +52,12 @@ only_number (t ∷ (u ∷ us)) = None
 unfoldable pub count_of : List ℕ → Line → Option ℕ
 count_of word line = option_and_then only_number (tail_of word line)
 
-abbrev pub expected : ℕ → Option ℕ → Option (Unit {0})
-expected n None = None
-expected n (Some m) = if m == n then Some tt else None
+abbrev pub is_number : ℕ → Option ℕ → Bool
+is_number n None = false
+is_number n (Some m) = m == n
 
-unfoldable pub case_of : ℕ → Line → Option (Unit {0})
-case_of n line = expected n (count_of (codes "case") line)
+unfoldable pub is_case : ℕ → Line → Bool
+is_case n line = is_number n (count_of (codes "case") line)
 
 unfoldable pub set_of : Line → Option (List ℕ)
 set_of line = option_and_then (ascending_from 0) (tail_of (codes "set") line)
@@ -55,7 +65,7 @@ set_of line = option_and_then (ascending_from 0) (tail_of (codes "set") line)
 abbrev pub rows_after : ℕ → Line → Option ℕ
 rows_after n [] = None
 rows_after n (t ∷ []) = None
-rows_after n (t ∷ (u ∷ [])) = option_and_then (λ _. number_of u) (expected n (number_of t))
+rows_after n (t ∷ (u ∷ [])) = if is_number n (number_of t) then number_of u else None
 rows_after n (t ∷ (u ∷ (v ∷ vs))) = None
 
 -- how many rows statement n has
@@ -122,7 +132,7 @@ statement_of n line = or_else (option_map inl (at_of n line)) (option_map inr (p
 
 -- a block's heading, or the end
 unfoldable pub heading_of : Line → Option ((List ℕ × ℕ) ⊎ Unit {0})
-heading_of line = or_else (option_map inl (block_of line)) (option_map inr (fixed_of (codes "end" ∷ []) line))
+heading_of line = or_else (option_map inl (block_of line)) (option_map inr (if_true (is_end line)))
 
 -- ---- all lines
 
@@ -140,11 +150,14 @@ statement n = one_line (statement_of n) >>= rows_or_picks
 unfoldable pub statements : Reading (List (List Row) × List ℕ)
 statements = many statement (λ n rs. suc n) 0
 
+unfoldable pub step_lines : ℕ → Reading (List Step)
+step_lines n = each {A = Step} {S = Unit {0}} (λ left s. one_line step_of) (λ s x. tt) n tt
+
 unfoldable pub steps : Reading (List Step)
-steps = one_line (count_of (codes "steps")) >>= λ n. each {A = Step} {S = Unit {0}} (λ left s. one_line step_of) (λ s x. tt) n tt
+steps = one_line (count_of (codes "steps")) >>= λ n. step_lines n
 
 unfoldable pub a_case : ℕ → Reading CertCase
-a_case n = one_line (case_of n) >>= λ _. statements >>= λ p. steps >>= λ ss. give (record { rows = p.0; picks = p.1; steps = ss })
+a_case n = one_line (λ line. if_true (is_case n line)) >>= λ _. statements >>= λ p. steps >>= λ ss. give (record { rows = p.0; picks = p.1; steps = ss })
 
 unfoldable pub cases : ℕ → Reading (List CertCase)
 cases n = each (λ left i. a_case i) (λ i c. suc i) n 1
@@ -159,8 +172,11 @@ block = one_line heading_of >>= block_or_end
 unfoldable pub blocks : Reading (List Block × Unit {0})
 blocks = many {A = Block} {E = Unit {0}} {S = Unit {0}} (λ s. block) (λ s b. tt) tt
 
+unfoldable pub set_lines : ℕ → Reading (List (List ℕ))
+set_lines n = each {A = List ℕ} {S = Unit {0}} (λ left s. one_line set_of) (λ s x. tt) n tt
+
 unfoldable pub sets : Reading (List (List ℕ))
-sets = one_line (count_of (codes "points")) >>= λ n. each {A = List ℕ} {S = Unit {0}} (λ left s. one_line set_of) (λ s x. tt) n tt
+sets = one_line (count_of (codes "points")) >>= λ n. set_lines n
 
 unfoldable pub certificate : Reading Certificate
-certificate = one_line (fixed_of (codes "cssv-cert" ∷ codes "1" ∷ [])) >>= λ _. sets >>= λ ss. blocks >>= λ bs. give (record { sets = ss; blocks = bs.0 })
+certificate = one_line (λ line. if_true (is_header line)) >>= λ _. sets >>= λ ss. blocks >>= λ bs. give (record { sets = ss; blocks = bs.0 })

@@ -22,6 +22,11 @@ whole_lines (part ∷ (next ∷ parts)) = tokens_of part ∷ whole_lines (next �
 unfoldable pub lines_in : List ℕ → List Line
 lines_in text = whole_lines (slice_split (λ b. b == 10) text)
 
+-- a text without a newline as lines
+abbrev pub unfinished : List ℕ → List Line
+unfinished [] = []
+unfinished (b ∷ bs) = [] ∷ []
+
 -- ---- reading
 
 -- a value and the lines after it, or the lines from the wrong one on

@@ -1,12 +1,12 @@
--- The text of a certificate, version 1, by lines; and the first wrong line of a text that is none.
-use Rattle.std.specs.Prelude.{◌≡◌, ℕ, zero, suc, ◌+◌, ◌<◌, Bool, true, false, ◌==◌, if◌then◌else◌, List, [], ◌∷◌, ◌++◌, length, map, codes, decimal, flat_map, Option, Some, None, option_map, IsSomeAnd}
+-- The text of a certificate, version 1, by lines.
+use Rattle.std.specs.Prelude.{ℕ, suc, List, [], ◌∷◌, ◌++◌, length, map, codes, decimal, flat_map}
 use Rattle.std.specs.Fmt.{signed_decimal}
 use Rattle.std.specs.List.{join_with_byte}
 use Rattle.cv_num.specs.declared.rows.Row.{Row}
 use Rattle.cv_farkas.specs.declared.steps.Step.{Step}
 use Rattle.cv_cert.specs.declared.certificate.Block.{Block}
 use Rattle.cv_cert.specs.declared.certificate.CertCase.{CertCase}
-use Rattle.cv_cert.specs.Certificate.{Certificate, IsCertificate}
+use Rattle.cv_cert.specs.Certificate.{Certificate}
 
 -- a line by its tokens
 abbrev pub Line : Type 0
@@ -62,24 +62,3 @@ lines_of c =
 -- the one text of a certificate
 abbrev pub text_of : Certificate → List ℕ
 text_of c = text_of_lines (lines_of c)
-
--- ---- wrong lines
-
--- these bytes begin the text of some certificate
-abbrev pub BeginsText : List ℕ → Type 0
-BeginsText bytes = (c : Certificate) × (tail : List ℕ) × IsCertificate c × (text_of c ≡ bytes ++ tail)
-
--- the first n lines of a text with their newlines, where there are so many
-abbrev pub first_lines : ℕ → List ℕ → Option (List ℕ)
-first_lines zero text = Some []
-first_lines (suc n) [] = None
-first_lines (suc n) (b ∷ bytes) = option_map (λ rest. b ∷ rest) (first_lines (if b == 10 then n else suc n) bytes)
-
--- the first n lines are there, each with its newline, and begin the text of some certificate
-abbrev pub IsRightTo : List ℕ → ℕ → Type 0
-IsRightTo text n = IsSomeAnd (first_lines n text) BeginsText
-
--- line n, from 1, is the first that is wrong
-pub record IsFirstWrong (text : List ℕ) (n : ℕ) : Type 0 where
-  pub before : (k : ℕ) → k < n → IsRightTo text k
-  pub wrong : ¬ (IsRightTo text n)

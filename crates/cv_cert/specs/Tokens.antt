@@ -5,6 +5,7 @@ use Rattle.std.specs.Str.{all_ascii_digits, bytes_eq}
 use Rattle.std.specs.Ordering.{int_eq}
 use Rattle.cv_num.specs.declared.rows.Row.{Row}
 use Rattle.cv_cert.specs.Certificate.{is_before}
+use Rattle.cv_cert.specs.Reading.{tokens_of}
 use Rattle.cv_cert.specs.Text.{Line}
 
 -- the number that digits spell behind the number n
@@ -78,3 +79,8 @@ has_room n (p ∷ ps) = nat_lt p.0 4294967295 || room_above n p.1
 abbrev pub is_after : Option Row → Row → Bool
 is_after None r = true
 is_after (Some before) r = is_before before.pairs r.pairs
+
+-- the tokens of what stands behind a token: nothing, or a space and more of the line
+abbrev pub fields : List ℕ → Line
+fields [] = []
+fields (c ∷ cs) = tokens_of cs

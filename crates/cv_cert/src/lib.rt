@@ -3,6 +3,15 @@
 
 mod certificate;
 mod fault;
+mod fields;
+mod grammar;
+mod kinds;
+mod lines;
+mod names;
+mod order;
+mod read;
+mod tokens;
 
 pub use certificate::{Block, Cert, CertCase};
 pub use fault::CertError;
+pub use read::read_cert;

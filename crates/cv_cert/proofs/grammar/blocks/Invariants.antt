@@ -1,0 +1,12 @@
+use Rattle.std.proofs.Common.{◌≡◌, length}
+use Rattle.cv_cert.specs.Reading.{lines_in, many}
+use Rattle.cv_cert.specs.Lines.{block, blocks}
+use Rattle.cv_cert.proofs.Laws.{onto_many}
+use Rattle.cv_cert.proofs.Phrases.{block_next}
+use Rattle.cv_cert.proofs.grammar.blocks.Given as goal
+
+abbrev pub invariant-loop-found : goal.invariant-loop-found
+invariant-loop-found l = onto_many l.found (many (λ s. block) block_next tt (lines_in l.rest)) ≡ blocks (lines_in l.fn.text)
+
+abbrev pub decreases-loop-found : goal.decreases-loop-found
+decreases-loop-found l = length (lines_in l.rest)
