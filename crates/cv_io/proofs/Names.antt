@@ -1,8 +1,8 @@
 -- Names in lists of names and files.
-use Rattle.std.proofs.Common.{◌≡◌, ◌≢◌, ℕ, ◌+◌, ◌≤◌, ◌<◌, List, [], ◌∷◌, ◌++◌, if◌then◌else◌, Bool, true, false, arith, ap, refl, Some}
+use Rattle.std.proofs.Common.{◌≡◌, ◌≢◌, ℕ, ◌+◌, List, [], ◌∷◌, ◌++◌, if◌then◌else◌, true, false, arith, refl, Some}
 use Rattle.std.specs.Str.{bytes_eq}
 use Rattle.std.proofs.lemmas.Slice.Eq.{bytes_eq-Decides}
-use Rattle.cv_io.specs.Counts.{Rose, NoneFell, last_count, capped}
+use Rattle.cv_io.specs.Counts.{Rose, NoneFell}
 use Rattle.cv_io.specs.Memory.{times_in, count_in, file_of}
 
 -- a name equals itself

@@ -1,6 +1,6 @@
 //! The host's standard streams and files as devices. They tell no content: no contract can say what the system gives
 //! or takes. Each counts its faults.
-ghost use Rattle.std.specs.Prelude.{◌≡◌, ◌≤◌, ◌<◌, None, length, IfOk, OnOk, IfSome};
+ghost use Rattle.std.specs.Prelude.{◌≡◌, ◌≤◌, ◌<◌, List, ℕ, None, length, IfOk, OnOk, IfSome};
 ghost use Rattle.std.specs.Io.KnownBytes.{Appends};
 ghost use Rattle.cv_io.specs.Counts.{capped, capped-counted};
 
@@ -82,7 +82,9 @@ fn read_whole<R: Read>(alloc: Global, from: &mut R, limit: u64) -> Result<Vec<u8
 
 impl HostIn {
     /// Standard input, with no fault counted.
-    pub fn new(stdin: Stdin) -> HostIn {
+    pub fn new(stdin: Stdin) -> HostIn
+        ensures { ⟦<HostIn as Source>⟧.faults result ≡ 0 }
+    {
         HostIn { stdin, faults: 0 }
     }
 }
@@ -107,7 +109,9 @@ impl Source for HostIn {
 
 impl HostOut {
     /// Standard output, with no fault counted.
-    pub fn new(stdout: Stdout) -> HostOut {
+    pub fn new(stdout: Stdout) -> HostOut
+        ensures { ⟦<HostOut as Sink>⟧.faults result ≡ 0 }
+    {
         HostOut { stdout, faults: 0 }
     }
 }
@@ -130,7 +134,9 @@ impl Sink for HostOut {
 
 impl HostErr {
     /// Standard error, with no fault counted.
-    pub fn new(stderr: Stderr) -> HostErr {
+    pub fn new(stderr: Stderr) -> HostErr
+        ensures { ⟦<HostErr as Sink>⟧.faults result ≡ 0 }
+    {
         HostErr { stderr, faults: 0 }
     }
 }
@@ -182,7 +188,10 @@ fn save_file(files: &HostRuntime, name: &[u8], bytes: &[u8]) -> Result<(), Faile
 
 impl HostStore {
     /// The files of the host, with no fault counted.
-    pub fn new(files: HostRuntime) -> HostStore {
+    pub fn new(files: HostRuntime) -> HostStore
+        ensures reading { (name : List ℕ) → ⟦<HostStore as Store>⟧.reading_faults result name ≡ 0 }
+        ensures writing { (name : List ℕ) → ⟦<HostStore as Store>⟧.writing_faults result name ≡ 0 }
+    {
         HostStore {
             files,
             reading_faults: 0,

@@ -52,40 +52,55 @@ fn sinks_keep_what_is_written(rt: HostRuntime) -> Result<(), Fail> {
     Ok(())
 }
 
-/// What a load answers: the number of bytes, or the error.
-fn loaded<S: Store>(
+/// Loads each name with its limit, and compares the number of bytes, or the error.
+fn loads<S: Store>(
     rt: &impl Abort,
     alloc: Global,
     store: &mut S,
-    name: &str,
-    limit: u64,
-    want: Result<usize, StoreError>,
+    table: &[(&str, u64, Result<usize, StoreError>)],
 ) {
-    let got = store
-        .load(alloc, name.as_bytes(), limit)
-        .map(|bytes| bytes.len());
-    assert_eq!(rt; got, want, "{name} with limit {limit}");
+    for (name, limit, want) in table {
+        let got = store
+            .load(alloc, name.as_bytes(), *limit)
+            .map(|bytes| bytes.len());
+        assert_eq!(rt; got, *want, "{name} with limit {limit}");
+    }
+}
+
+/// Saves bytes under `a` twice, and says what each save answered.
+fn saves<S: Store>(store: &mut S) -> [Result<(), StoreError>; 2] {
+    [store.save(b"a", b"new"), store.save(b"a", b"newer")]
 }
 
 #[test]
-fn stores_load_and_save(rt: HostRuntime) -> Result<(), Fail> {
+fn a_steady_store_loads_and_saves(rt: HostRuntime) -> Result<(), Fail> {
     let alloc = rt.alloc();
-    let mut steady = SteadyStore::new(alloc, files(alloc)?);
-    loaded(&rt, alloc, &mut steady, "a", 3, Ok(3));
-    loaded(&rt, alloc, &mut steady, "a", 2, Err(StoreError::TooLong));
-    loaded(&rt, alloc, &mut steady, "b", 0, Ok(0));
-    loaded(&rt, alloc, &mut steady, "c", 9, Err(StoreError::Failed));
-    assert_eq!(rt; steady.save(b"c", b"new"), Ok(()));
-    assert_eq!(rt; steady.bytes(b"c"), Some(b"new".as_slice()));
-    assert_eq!(rt; steady.bytes(b"d"), None);
-    let mut store = MemStore::new(alloc, files(alloc)?, vec![in alloc; 0, 2]?);
-    loaded(&rt, alloc, &mut store, "a", 3, Err(StoreError::Failed));
-    loaded(&rt, alloc, &mut store, "a", 3, Ok(3));
-    assert_eq!(rt; store.save(b"a", b"other"), Err(StoreError::Failed));
-    assert_eq!(rt; store.save(b"a", b"other"), Ok(()));
-    loaded(&rt, alloc, &mut store, "a", 5, Ok(5));
-    loaded(&rt, alloc, &mut store, "c", 5, Err(StoreError::Failed));
-    assert_eq!(rt; store.bytes(b"b"), Some(b"".as_slice()));
+    let mut store = SteadyStore::new(alloc, files(alloc)?);
+    let table = [
+        ("a", 3, Ok(3)),
+        ("a", 2, Err(StoreError::TooLong)),
+        ("b", 0, Ok(0)),
+        ("c", 9, Err(StoreError::Failed)),
+    ];
+    loads(&rt, alloc, &mut store, &table);
+    assert_eq!(rt; saves(&mut store), [Ok(()), Ok(())]);
+    assert_eq!(rt; store.bytes(b"a"), Some(b"newer".as_slice()));
+    assert_eq!(rt; store.bytes(b"d"), None);
+    Ok(())
+}
+
+#[test]
+fn a_store_fails_where_it_is_to(rt: HostRuntime) -> Result<(), Fail> {
+    let alloc = rt.alloc();
+    let mut store = MemStore::new(alloc, files(alloc)?, vec![in alloc; 0, 3]?);
+    let table = [
+        ("a", 3, Err(StoreError::Failed)),
+        ("a", 3, Ok(3)),
+        ("c", 3, Err(StoreError::Failed)),
+    ];
+    loads(&rt, alloc, &mut store, &table);
+    assert_eq!(rt; saves(&mut store), [Err(StoreError::Failed), Ok(())]);
+    assert_eq!(rt; store.bytes(b"a"), Some(b"newer".as_slice()));
     Ok(())
 }
 
@@ -99,23 +114,12 @@ fn host_files_load_and_save(rt: HostRuntime) -> Result<(), Fail> {
         store.load(alloc, b"host-store.txt", 40000)?.as_slice(),
         text.as_slice()
     );
-    loaded(
-        &rt,
-        alloc,
-        &mut store,
-        "host-store.txt",
-        39999,
-        Err(StoreError::TooLong),
-    );
-    loaded(
-        &rt,
-        alloc,
-        &mut store,
-        "no-such-file",
-        9,
-        Err(StoreError::Failed),
-    );
-    loaded(&rt, alloc, &mut store, ".", 9, Err(StoreError::Failed));
+    let table = [
+        ("host-store.txt", 39999, Err(StoreError::TooLong)),
+        ("no-such-file", 9, Err(StoreError::Failed)),
+        (".", 9, Err(StoreError::Failed)),
+    ];
+    loads(&rt, alloc, &mut store, &table);
     let unnamed = store.load(alloc, b"\xff", 9).map(|bytes| bytes.len());
     assert_eq!(rt; unnamed, Err(StoreError::Failed));
     assert_eq!(rt; store.save(b"\xff", b""), Err(StoreError::Failed));
