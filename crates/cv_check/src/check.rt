@@ -89,3 +89,38 @@ fn all_steps<'a>(
         Some(last) => Ok(Some(last)),
     }
 }
+
+/// Whether a case is valid for the statements over a buffer of this size.
+fn is_case_valid(
+    alloc: Global,
+    size: u32,
+    stmts: &[Stmt],
+    case: &CertCase,
+) -> Result<bool, AllocError>
+    ensures { IfOk result (λ valid. IsTrue valid ↔ IsCaseValid size stmts.now case.now) }
+{
+    let rows = case.rows.as_slice();
+    let formed = is_formed(stmts, case);
+    if !formed {
+        return Ok(false);
+    }
+    let target = has_address(stmts);
+    let facts = facts(alloc, size, target)?;
+    let sized = statements_sized(alloc, size, target, stmts, rows, &facts)?;
+    if !sized {
+        return Ok(false);
+    }
+    match all_steps(alloc, size, stmts, rows, case.steps.as_slice())? {
+        None => Ok(false),
+        Some(left) => Ok(left.is_empty()),
+    }
+}
+
+/// Whether the case has rows for each statement, of the pointer alone, and no picks.
+fn is_formed(stmts: &[Stmt], case: &CertCase) -> bool
+    ensures { IsTrue result ↔ ((length case.now.rows ≡ length stmts.now) × IsTrue (list_all (list_all names_pointer_of) case.now.rows) × (case.now.picks ≡ [])) }
+{
+    let rows = case.rows.as_slice();
+    let named = all_name_pointer(rows);
+    rows.len() == stmts.len() && named && case.picks.is_empty()
+}
