@@ -108,13 +108,13 @@ set_clean : (s : List ℕ) → IsSet s → CleanLine (set_line s)
 set_clean s h = word_first (codes "set") (map decimal s) refl (numbers_clean s h.0)
 
 row_clean : (r : Row) → IsRow r → CleanLine (row_line r)
-row_clean r h = word_first (codes "row") _ refl (and_both (clean (signed_decimal r.constant)) _ (integer_clean r.constant h.constant) (pairs_clean r.pairs h.pairs))
+row_clean r h = word_first (codes "row") (signed_decimal r.constant ∷ flat_map (λ p. decimal p.0 ∷ signed_decimal p.1 ∷ []) r.pairs) refl (and_both (clean (signed_decimal r.constant)) _ (integer_clean r.constant h.constant) (pairs_clean r.pairs h.pairs))
 
 step_clean : (s : Step) → IsStep s → CleanLine (step_line s)
-step_clean s h = word_first (codes "step") _ refl (and_both (clean (decimal s.d)) _ (number_clean s.d h.0) (parts_clean s.parts h.1))
+step_clean s h = word_first (codes "step") (decimal s.d ∷ flat_map (λ p. decimal p.0 ∷ decimal p.1 ∷ []) s.parts) refl (and_both (clean (decimal s.d)) _ (number_clean s.d h.0) (parts_clean s.parts h.1))
 
 picks_clean : (picks : List ℕ) → IsNumber (length picks) → AllByRecursion IsNumber picks → CleanLine (picks_line picks)
-picks_clean picks h k = word_first (codes "picks") _ refl (and_both (clean (decimal (length picks))) _ (number_clean (length picks) h) (numbers_clean picks k))
+picks_clean picks h k = word_first (codes "picks") (decimal (length picks) ∷ map decimal picks) refl (and_both (clean (decimal (length picks))) _ (number_clean (length picks) h) (numbers_clean picks k))
 
 -- ---- lists of lines
 
@@ -134,14 +134,14 @@ statements_clean : (n : ℕ) (rows : List (List Row)) → n + length rows ≤ 2 
 statements_clean n [] small h = tt
 statements_clean n (rs ∷ rows) small h =
     let one = h.0 in
-    let head : CleanLine (codes "at" ∷ decimal n ∷ decimal (length rs) ∷ []) = word_first (codes "at") _ refl (and_both (clean (decimal n)) _ (number_clean n (omega (arith, small))) (count_clean (length rs) one.0)) in
+    let head : CleanLine (codes "at" ∷ decimal n ∷ decimal (length rs) ∷ []) = word_first (codes "at") (decimal n ∷ decimal (length rs) ∷ []) refl (and_both (clean (decimal n)) _ (number_clean n (omega (arith, small))) (count_clean (length rs) one.0)) in
     let lines : CleanLines (statement_lines n rs) = (head, rows_clean _ rs one.1) in
     clean_append (statement_lines n rs) (numbered statement_lines (suc n) rows) lines (statements_clean (suc n) rows (omega (arith, small)) h.1)
 
 case_clean : (n : ℕ) (c : CertCase) → IsNumber n → IsCase c → CleanLines (case_lines n c)
 case_clean n c h k =
-    let steps : CleanLines (steps_line (length c.steps) ∷ map step_line c.steps) = (word_first (codes "steps") _ refl (count_clean (length c.steps) k.steps_listed), clean_map IsStep step_line step_clean c.steps k.steps) in
-    (word_first (codes "case") _ refl (count_clean n h),
+    let steps : CleanLines (steps_line (length c.steps) ∷ map step_line c.steps) = (word_first (codes "steps") (decimal (length c.steps) ∷ []) refl (count_clean (length c.steps) k.steps_listed), clean_map IsStep step_line step_clean c.steps k.steps) in
+    (word_first (codes "case") (decimal n ∷ []) refl (count_clean n h),
      clean_append (numbered statement_lines 0 c.rows) (picks_line c.picks ∷ (steps_line (length c.steps) ∷ map step_line c.steps)) (statements_clean 0 c.rows (omega (arith, k.statements)) k.rows) (picks_clean c.picks k.picks_listed k.picks, steps))
 
 cases_clean : (n : ℕ) (cs : List CertCase) → n + length cs ≤ 2 ^ 32 → AllByRecursion IsCase cs → CleanLines (numbered case_lines n cs)
@@ -149,7 +149,7 @@ cases_clean n [] small h = tt
 cases_clean n (c ∷ cs) small h = clean_append (case_lines n c) (numbered case_lines (suc n) cs) (case_clean n c (omega (arith, small)) h.0) (cases_clean (suc n) cs (omega (arith, small)) h.1)
 
 block_clean : (b : Block) → IsBlock b → CleanLines (block_lines b)
-block_clean b h = (word_first (codes "proc") _ refl (and_both (clean b.name) _ (name_clean b.name h.name) (count_clean (length b.cases) h.cases_listed)), cases_clean 1 b.cases (omega (arith, h.cases_listed)) h.cases)
+block_clean b h = (word_first (codes "proc") (b.name ∷ decimal (length b.cases) ∷ []) refl (and_both (clean b.name) _ (name_clean b.name h.name) (count_clean (length b.cases) h.cases_listed)), cases_clean 1 b.cases (omega (arith, h.cases_listed)) h.cases)
 
 blocks_clean : (bs : List Block) → AllByRecursion IsBlock bs → CleanLines (flat_map block_lines bs)
 blocks_clean [] h = tt
@@ -157,6 +157,7 @@ blocks_clean (b ∷ bs) h = clean_append (block_lines b) (flat_map block_lines b
 
 pub certificate_clean : (c : Certificate) → IsCertificate c → CleanLines (lines_of c)
 certificate_clean c h =
-    (word_first (codes "cssv-cert") (codes "1" ∷ []) refl refl, word_first (codes "points") _ refl (count_clean (length c.sets) h.sets_listed),
-     clean_append (map set_line c.sets) (flat_map block_lines c.blocks ++ (codes "end" ∷ []) ∷ []) (clean_map IsSet set_line set_clean c.sets h.sets)
-       (clean_append (flat_map block_lines c.blocks) ((codes "end" ∷ []) ∷ []) (blocks_clean c.blocks h.blocks) (word_first (codes "end") [] refl refl, tt)))
+    let rest : CleanLines (map set_line c.sets ++ (flat_map block_lines c.blocks ++ (codes "end" ∷ []) ∷ [])) =
+        clean_append (map set_line c.sets) (flat_map block_lines c.blocks ++ (codes "end" ∷ []) ∷ []) (clean_map IsSet set_line set_clean c.sets h.sets)
+          (clean_append (flat_map block_lines c.blocks) ((codes "end" ∷ []) ∷ []) (blocks_clean c.blocks h.blocks) (word_first (codes "end") [] refl refl, tt)) in
+    (word_first (codes "cssv-cert") (codes "1" ∷ []) refl refl, (word_first (codes "points") (decimal (length c.sets) ∷ []) refl (count_clean (length c.sets) h.sets_listed), rest))

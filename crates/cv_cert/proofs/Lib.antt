@@ -10,3 +10,4 @@ pub mod Phrases
 pub mod ManyLoops
 pub mod Clean
 pub mod Joined
+pub mod WholeText

@@ -10,10 +10,10 @@ use Rattle.std.specs.Int.{w64}
 use Rattle.std.proofs.lemmas.Int.{ints}
 use Rattle.cv_cert.specs.Tokens.{digits_after, no_leading_zero, natural_of, number_of, integer_of, negative_of}
 
-abbrev IsDigits : List ℕ → Type 0
+abbrev pub IsDigits : List ℕ → Type 0
 IsDigits ds = all_ascii_digits ds ≡ true
 
-own : IsNumeralModel IsDigits (digits_after 0)
+pub own : IsNumeralModel IsDigits (digits_after 0)
 own = numerals_by_fold _ (search rules) digits_after (search rules)
 
 digits_grow : (n : ℕ) (ds : List ℕ) → n ≤ digits_after n ds

@@ -514,7 +514,7 @@ made_certificate ss bs = record { sets = ss; blocks = bs.0 }
 abbrev CertificateParts : Unit {0} → Certificate → Lines → Type 0
 CertificateParts u = Then FamilyText (λ ss. Then BlocksText (λ bs. Given (made_certificate ss bs)))
 
-pub CertificateText : Certificate → Lines → Type 0
+unfoldable pub CertificateText : Certificate → Lines → Type 0
 CertificateText c text = IsCertificate c × (text ≡ lines_of c)
 
 certificate_to : (c : Certificate) (text : Lines) → Then (OneLine header_head) CertificateParts c text → CertificateText c text

@@ -35,7 +35,7 @@ tokens_first bs e h = elim (cases_lt e (length bs)) [
         slice_split_none space bs (none_before space bs k) ∙ ap (λ (t : List ℕ). t ∷ []) (sym (take_whole bs e ge)) ∙ ap (λ (ds : List ℕ). take e bs ∷ fields ds) (sym (drop_whole bs e ge)))
   ]
 
-split_is_some : (p : ℕ → Bool) (xs : List ℕ) → (t : List ℕ) × (ts : List (List ℕ)) × (slice_split p xs ≡ t ∷ ts)
+pub split_is_some : (p : ℕ → Bool) (xs : List ℕ) → (t : List ℕ) × (ts : List (List ℕ)) × (slice_split p xs ≡ t ∷ ts)
 split_is_some p [] = ([], [], refl)
 split_is_some p (x ∷ xs) = by_test (p x) (split_is_some p xs)
   where
