@@ -27,7 +27,6 @@ front_shown ws vs steps left h = all_shown-append ws vs steps ∙ ap (option_and
 pub flat_fails : {X : Type 0} (f : X → List Owed) (xs : List X) (i : ℕ) (x d : X) (start left : List Step) → i < length xs → x ≡ slice_index_or xs i d →
     all_shown (flat_map f (drop i xs)) left ≡ all_shown (flat_map f xs) start → all_shown (f x) left ≡ None → all_shown (flat_map f xs) start ≡ None
 flat_fails f xs i x d start left lt is inv none =
-
     sym inv ∙ ap (λ ys. all_shown (flat_map f ys) left) (drop_more xs i d lt)
     ∙ front_fails (f (slice_index_or xs i d)) (flat_map f (drop (i + 1) xs)) left (ap (λ y. all_shown (f y) left) (sym is) ∙ none)
 

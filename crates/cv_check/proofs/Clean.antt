@@ -1,14 +1,12 @@
 -- An accepted straight-line program is clean.
-use Rattle.std.proofs.Common.{◌≡◌, ◌≢◌, refl, sym, ap, subst, ◌∙◌, ℕ, zero, suc, ◌+◌, ◌≤◌, ◌<◌, ◌⊎◌, inl, inr, Bool, true, false, ◌||◌, List, [], ◌∷◌, ◌++◌, length, map, Option, Some, None, arith, ℤ, pos, negsuc, IsTrue}
+use Rattle.std.proofs.Common.{◌≡◌, refl, sym, ap, subst, ◌∙◌, ℕ, zero, suc, ◌<◌, ◌⊎◌, inl, inr, Bool, true, false, List, [], ◌∷◌, ◌++◌, map, Option, Some, None, arith, ℤ, pos, negsuc}
 use Rattle.std.proofs.lemmas.Int.{ints}
 use Rattle.std.proofs.Math.Bool.{or-true}
 use Rattle.std.specs.Prelude.{slice_get, codes}
-use Rattle.std.specs.List.{list_any, list_all}
+use Rattle.std.specs.List.{list_all}
 use Rattle.std.proofs.lemmas.Bool.{and_parts}
 use Rattle.cv_num.specs.declared.rows.Row.{Row}
-use Rattle.cv_farkas.specs.declared.steps.Step.{Step}
-use Rattle.cv_core.specs.Grammar.{IsWritten}
-use Rattle.cv_core.specs.Names.{Name, place_of, objects_of, stmts_of}
+use Rattle.cv_core.specs.Names.{Name, stmts_of}
 use Rattle.cv_core.specs.declared.program.Program.{Program}
 use Rattle.cv_core.specs.declared.program.Proc.{Proc}
 use Rattle.cv_core.specs.declared.program.ResultKind.TheVariants as answer
@@ -19,21 +17,18 @@ use Rattle.cv_core.specs.declared.program.Form.TheVariants as form
 use Rattle.cv_core.specs.declared.program.Operand.TheVariants.{Number}
 use Rattle.cv_core.specs.declared.program.AnyOperand.TheVariants as any
 use Rattle.cv_core.specs.declared.program.Stmt.{Stmt}
-use Rattle.cv_meaning.specs.declared.memory.Value.{Value}
-use Rattle.cv_meaning.specs.declared.memory.World.{World}
-use Rattle.cv_meaning.specs.Memory.{Memory}
 use Rattle.cv_meaning.specs.State.{Frame, State, fresh_bytes}
 use Rattle.cv_meaning.specs.Call.{Turn, Errs, Goes, Enters, Leaves, entered}
 use Rattle.cv_meaning.specs.Clean.{Clean, IsError}
-use Rattle.cv_meaning.specs.Run.{End, Stopped, Error, Returned, Runner, after, at_stmt, turn, one_step, run_within, run, run_main}
+use Rattle.cv_meaning.specs.Run.{Runner, after, at_stmt, turn, one_step, run_within, run, run_main}
 use Rattle.cv_meaning.proofs.Accesses.{same_name, get-last, length-fresh_bytes}
 use Rattle.cv_text.specs.Narrow.{IsNarrow, IsMove, IsReturn, IsStraight, main_alone, no_contract, buffer_local, pointer_local}
 use Rattle.cv_check.specs.Integer.{facts, place, has_address, is_address, entry}
-use Rattle.cv_check.specs.Shown.{Owed, owed, place_owed, first_rows, later_rows, stmts_owed, entry_owed, all_shown}
-use Rattle.cv_check.specs.Accepted.{names_pointer, IsCaseValid, IsValid, IsAccepted, statements, buffer_size, all_owed}
-use Rattle.cv_check.proofs.Follows.{Each, each_front, each_back, AreTrueAt, Follows, all_follow, true_append}
+use Rattle.cv_check.specs.Shown.{owed, place_owed, first_rows, later_rows, stmts_owed, entry_owed}
+use Rattle.cv_check.specs.Accepted.{names_pointer, IsCaseValid, IsValid, IsAccepted, buffer_size, all_owed}
+use Rattle.cv_check.proofs.Follows.{Each, each_front, each_back, AreTrueAt, Follows, all_follow}
 use Rattle.cv_check.proofs.Named.{IsFree, are_free}
-use Rattle.cv_check.proofs.Sound.{Holds, IsFrame, IsFineTurn, point, rows_at, PointsAt, Owes, fine_address, fine_shift, fine_store, fine_return, facts_true}
+use Rattle.cv_check.proofs.Sound.{Holds, IsFrame, IsFineTurn, point, rows_at, Owes, fine_address, fine_shift, fine_store, fine_return}
 
 -- ---- what is known of a statement by its number
 
@@ -59,17 +54,13 @@ owed_at size target (s ∷ ss) rows zero st h is =
     subst O e (each_front Follows (place_owed (first_rows rows) (first_rows (later_rows rows)) (facts size target) (place size target s.form)) (stmts_owed size target ss (later_rows rows)) h)
 owed_at size target (s ∷ ss) rows (suc k) st h is =
     owed_at size target ss (later_rows rows) k st
-        (each_back Follows (place_owed (first_rows rows) (first_rows (later_rows rows)) (facts size target) (place size target s.form)) (stmts_owed size target ss (later_rows rows)) h) is
+    (each_back Follows (place_owed (first_rows rows) (first_rows (later_rows rows)) (facts size target) (place size target s.form)) (stmts_owed size target ss (later_rows rows)) h) is
 
 free_at : (rows : List (List Row)) → list_all (list_all names_pointer) rows ≡ true → (k : ℕ) → Each IsFree (rows_at rows k)
 free_at [] h zero = tt
 free_at [] h (suc k) = free_at [] h k
 free_at (rs ∷ rows) h zero = are_free rs (and_parts (list_all names_pointer rs) (list_all (list_all names_pointer) rows) h).0
 free_at (rs ∷ rows) h (suc k) = free_at rows (and_parts (list_all names_pointer rs) (list_all (list_all names_pointer) rows) h).1 k
-
-is_true : (b : Bool) → IsTrue b → b ≡ true
-is_true true h = refl
-is_true false h = absurd h
 
 goals_true : (hyps : List Row) (at : ℕ → ℤ) → AreTrueAt at hyps → (rs : List Row) → Each Follows (map (owed hyps) rs) → AreTrueAt at rs
 goals_true hyps at h [] k = tt
@@ -115,8 +106,8 @@ module _ (b p : Name) (size : ℕ) (lt : size < 2147483648) (target : Bool) (row
     stmt_fine r rest k s n h None is e = e
     stmt_fine r rest k s n h (Some st) is e =
         after_fine r rest k st s n _
-            (fine_stmt k s st.form (λ a. sym at_address ∙ address_at (stmts_of f.proc.body) k st is a) h (straight_at b p (stmts_of f.proc.body) k st straight is)
-                (owed_at size target (stmts_of f.proc.body) rows k st owes is)) e
+        (fine_stmt k s st.form (λ a. sym at_address ∙ address_at (stmts_of f.proc.body) k st is a) h (straight_at b p (stmts_of f.proc.body) k st straight is)
+        (owed_at size target (stmts_of f.proc.body) rows k st owes is)) e
 
     -- no run of any number of steps errs
     pub never_errs : (deep : ℕ) (k : ℕ) (s : State) (n : ℕ) → Holds b p size lt target rows f k s → IsError (run_within deep P f k s n) → ⊥
@@ -146,7 +137,7 @@ module _ (line : ℕ) (b p : Name) (size : ℕ) (lt : size < 2147483648) (stmts 
   first_true : AreTrueAt (point (negsuc 0) (pos 0) (pos 0)) (rows_at c.rows 0)
   first_true =
       goals_true (entry ++ facts size target) (point (negsuc 0) (pos 0) (pos 0)) (entry_true size target lt) (first_rows c.rows)
-          (each_front Follows (entry_owed size target c.rows) (stmts_owed size target stmts c.rows) shown_all)
+      (each_front Follows (entry_owed size target c.rows) (stmts_owed size target stmts c.rows) shown_all)
 
   rest_owed : Each Follows (stmts_owed size target stmts c.rows)
   rest_owed = each_back Follows (entry_owed size target c.rows) (stmts_owed size target stmts c.rows) shown_all
@@ -158,8 +149,8 @@ module _ (line : ℕ) (b p : Name) (size : ℕ) (lt : size < 2147483648) (stmts 
         let P : Program = main_alone line (buffer_local b size ∷ pointer_local p ∷ []) stmts in
         let g : Frame = entered P 0 (main_proc line (buffer_local b size ∷ pointer_local p ∷ []) stmts) args m in
         let nar : IsFrame b p size lt target c.rows g = record { has_buffer = rw (same_name b) refl; gives = refl; literals = omega arith } in
-        never_errs b p size lt target c.rows g nar P (free_at c.rows (is_true _ valid.variables)) straight refl rest_owed n 0 _ n
-            (record { site = 1; bytes = fresh_bytes size w; is = get-last m _; long = length-fresh_bytes size w; c = negsuc 0; o = 0; le = omega arith; at = inl refl; true_rows = first_true }) e;
+        never_errs b p size lt target c.rows g nar P (free_at c.rows valid.variables) straight refl rest_owed n 0 _ n
+        (record { site = 1; bytes = fresh_bytes size w; is = get-last m _; long = length-fresh_bytes size w; c = negsuc 0; o = 0; le = omega arith; at = inl refl; true_rows = first_true }) e;
   }
 
   pub clean_pointer_first : Clean (main_alone line (pointer_local p ∷ buffer_local b size ∷ []) stmts)
@@ -169,8 +160,8 @@ module _ (line : ℕ) (b p : Name) (size : ℕ) (lt : size < 2147483648) (stmts 
         let P : Program = main_alone line (pointer_local p ∷ buffer_local b size ∷ []) stmts in
         let g : Frame = entered P 0 (main_proc line (pointer_local p ∷ buffer_local b size ∷ []) stmts) args m in
         let nar : IsFrame b p size lt target c.rows g = record { has_buffer = rw (same_name b) refl; gives = refl; literals = omega arith } in
-        never_errs b p size lt target c.rows g nar P (free_at c.rows (is_true _ valid.variables)) straight refl rest_owed n 0 _ n
-            (record { site = 1; bytes = fresh_bytes size w; is = get-last m _; long = length-fresh_bytes size w; c = negsuc 0; o = 0; le = omega arith; at = inl refl; true_rows = first_true }) e;
+        never_errs b p size lt target c.rows g nar P (free_at c.rows valid.variables) straight refl rest_owed n 0 _ n
+        (record { site = 1; bytes = fresh_bytes size w; is = get-last m _; long = length-fresh_bytes size w; c = negsuc 0; o = 0; le = omega arith; at = inl refl; true_rows = first_true }) e;
   }
 
 -- an accepted straight-line program is clean

@@ -1,13 +1,12 @@
 -- What is shown by steps is true wherever its hypotheses are.
-use Rattle.std.proofs.Common.{◌≡◌, refl, sym, ap, subst, ◌∙◌, ℕ, zero, suc, Bool, true, false, List, [], ◌∷◌, ◌++◌, length, Option, Some, None, arith, ℤ, pos, ◌+ℤ◌, ◌≤ℤ◌, if◌then◌else◌}
+use Rattle.std.proofs.Common.{◌≡◌, refl, ℕ, Bool, true, false, List, [], ◌∷◌, ◌++◌, Option, Some, None, ℤ, pos, ◌≤ℤ◌, if◌then◌else◌}
 use Rattle.std.proofs.lemmas.List.Elements.{All-nil, All-cons}
-use Rattle.std.proofs.lemmas.Bool.{and_parts}
 use Rattle.std.specs.Prelude.{◌&&◌}
 use Rattle.std.specs.List.{All}
 use Rattle.std.specs.Option.{option_and_then}
 use Rattle.cv_num.specs.declared.rows.Row.{Row}
 use Rattle.cv_num.specs.declared.rows.Wide.{Wide}
-use Rattle.cv_num.specs.Rows.{row_value, wide_value, as_row}
+use Rattle.cv_num.specs.Rows.{row_value}
 use Rattle.cv_farkas.specs.declared.steps.Step.{Step}
 use Rattle.cv_farkas.specs.Proof.{direct, holds}
 use Rattle.cv_farkas.specs.Computed.{holds_from, direct_from}
@@ -83,6 +82,6 @@ pub all_follow : (ws : List Owed) (steps left : List Step) → all_shown ws step
 all_follow [] steps left h = tt
 all_follow (w ∷ ws) steps left h =
     let cases : (o : Option (List Step)) → shown w steps ≡ o → option_and_then (all_shown ws) o ≡ Some left → Each Follows (w ∷ ws) =
-      λ o. elim o as (λ o. shown w steps ≡ o → option_and_then (all_shown ws) o ≡ Some left → Each Follows (w ∷ ws))
-          [ None ↦ λ e k. absurd (no_step left k) | Some mid ↦ λ e k. (shown_follows w steps mid e, all_follow ws mid left k) ] in
+    λ o. elim o as (λ o. shown w steps ≡ o → option_and_then (all_shown ws) o ≡ Some left → Each Follows (w ∷ ws))
+    [ None ↦ λ e k. absurd (no_step left k) | Some mid ↦ λ e k. (shown_follows w steps mid e, all_follow ws mid left k) ] in
     cases (shown w steps) refl h

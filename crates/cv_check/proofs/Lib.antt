@@ -6,3 +6,4 @@ pub mod Sizes
 pub mod Small
 pub mod Sound
 pub mod Clean
+pub mod Decided

@@ -1,5 +1,5 @@
 -- What a list of statements owes, from its first statement on.
-use Rattle.std.proofs.Common.{◌≡◌, refl, sym, ap, subst, ◌∙◌, ℕ, suc, ◌≤◌, ◌-◌, Bool, List, [], ◌∷◌, ◌++◌, length, drop, take, slice_index_or, Option, Some, None, arith}
+use Rattle.std.proofs.Common.{◌≡◌, sym, ap, ◌∙◌, ℕ, suc, ◌≤◌, ◌-◌, Bool, List, [], ◌∷◌, ◌++◌, length, drop, take, slice_index_or, Some, None, arith}
 use Rattle.std.proofs.Math.Seq.{take-length}
 use Rattle.cv_num.specs.declared.rows.Row.{Row}
 use Rattle.cv_farkas.specs.declared.steps.Step.{Step}

@@ -1,5 +1,5 @@
 -- The assignments of a straight-line program's transitions are small.
-use Rattle.std.proofs.Common.{◌≡◌, sym, subst, ℕ, ◌≤◌, ◌^◌, ◌<◌, Bool, true, false, List, [], ◌∷◌, ℤ, pos, negsuc, ◌≤ℤ◌, arith, if◌then◌else◌, FitsSigned}
+use Rattle.std.proofs.Common.{ℕ, ◌≤◌, ◌^◌, Bool, true, false, [], ◌∷◌, ℤ, pos, negsuc, arith, if◌then◌else◌, FitsSigned}
 use Rattle.std.specs.Prelude.{◌==◌}
 use Rattle.std.specs.Int.{w32}
 use Rattle.std.specs.Int.RustNames.{unsigned_abs}

@@ -1,43 +1,33 @@
 -- A straight-line main whose rows are shown never errs.
-use Rattle.std.proofs.Common.{◌≡◌, ◌≢◌, refl, sym, ap, subst, ◌∙◌, ℕ, zero, suc, ◌+◌, ◌-◌, ◌≤◌, ◌<◌, ◌⊎◌, inl, inr, Bool, true, false, ◌||◌, ◌&&◌, List, [], ◌∷◌, ◌++◌, length, map, Option, Some, None, Ok, Err, add-zero, arith, ℤ, pos, negsuc, ◌+ℤ◌, ◌-ℤ◌, ◌*ℤ◌, ◌≤ℤ◌, if◌then◌else◌}
+use Rattle.std.proofs.Common.{◌≡◌, refl, sym, ap, subst, ◌∙◌, ℕ, zero, suc, ◌≤◌, ◌<◌, ◌⊎◌, inl, inr, Bool, true, false, List, [], ◌∷◌, ◌++◌, length, map, Some, add-zero, arith, ℤ, pos, negsuc, ◌+ℤ◌, ◌-ℤ◌, ◌*ℤ◌, ◌≤ℤ◌, if◌then◌else◌}
 use Rattle.std.proofs.lemmas.Int.{ints}
 use Rattle.std.proofs.lemmas.List.{length-set}
-use Rattle.std.proofs.lemmas.List.Elements.{All-nil, All-cons}
 use Rattle.std.specs.Prelude.{slice_get, slice_set, ◌==◌}
-use Rattle.std.specs.List.{All, flat_map, list_any}
-use Rattle.std.specs.Option.{option_and_then}
+use Rattle.std.specs.List.{flat_map}
 use Rattle.cv_num.specs.declared.rows.Row.{Row}
 use Rattle.cv_num.specs.Pairs.{sum_at}
-use Rattle.cv_num.specs.Rows.{row_value}
-use Rattle.cv_num.specs.Algebra.{number, variable, image, substituted}
+use Rattle.cv_num.specs.Algebra.{number, substituted}
 use Rattle.cv_num.specs.Values.{substituted-value, after_assigning, variable-value}
-use Rattle.cv_farkas.specs.declared.steps.Step.{Step}
-use Rattle.cv_farkas.specs.Proof.{direct, holds}
 use Rattle.cv_core.specs.Chars.{low_byte}
-use Rattle.cv_core.specs.Names.{Name, place_of, objects_of, stmts_of}
+use Rattle.cv_core.specs.Names.{Name, place_of, objects_of}
 use Rattle.cv_core.specs.declared.program.Program.{Program}
 use Rattle.cv_core.specs.declared.program.Form.{Form}
 use Rattle.cv_core.specs.declared.program.Form.TheVariants.{Address, Shift, Store, Return}
 use Rattle.cv_core.specs.declared.program.Operand.TheVariants.{Number}
 use Rattle.cv_core.specs.declared.program.AnyOperand.TheVariants as any
-use Rattle.cv_core.specs.declared.program.Stmt.{Stmt}
 use Rattle.cv_meaning.specs.declared.memory.Ptr.TheVariants.{At}
 use Rattle.cv_meaning.specs.declared.memory.Value.{Value}
 use Rattle.cv_meaning.specs.declared.memory.Value.TheVariants as value
-use Rattle.cv_meaning.specs.Memory.{Memory, shift, store, within}
-use Rattle.cv_meaning.specs.State.{Frame, State, address, with_var}
+use Rattle.cv_meaning.specs.State.{Frame, State}
 use Rattle.cv_meaning.specs.Step.{step}
-use Rattle.cv_meaning.specs.Call.{Turn, Errs, Goes, Enters, Leaves, call}
-use Rattle.cv_meaning.specs.Clean.{IsError}
-use Rattle.cv_meaning.specs.Run.{End, Stopped, Error, Returned, Runner, after, at_stmt, turn, one_step, run_within, run}
+use Rattle.cv_meaning.specs.Call.{Turn, Errs, Goes, Enters, Leaves}
+use Rattle.cv_meaning.specs.Run.{turn}
 use Rattle.cv_meaning.proofs.Accesses.{set-same, shift_is, store_is, get-set, writable_own, buffer}
-use Rattle.cv_check.specs.declared.place.Group.{Group}
 use Rattle.cv_check.specs.declared.place.Move.{Move}
-use Rattle.cv_check.specs.declared.place.Place.{Place}
-use Rattle.cv_check.specs.Integer.{plus, less, over, under, facts, greatest_code, at_nothing, at_buffer, has_byte, wild, when, zero_before, zero_behind, zero_moves, other_at, other_before, other_behind, other_moves, store_moves, place, has_address, is_address}
-use Rattle.cv_check.specs.Shown.{Owed, owed, group_owed, move_owed, place_owed, first_rows, later_rows, stmts_owed, by_step, shown, all_shown, is_plain}
+use Rattle.cv_check.specs.Integer.{plus, over, under, facts, at_nothing, at_buffer, has_byte, zero_before, zero_behind, zero_moves, other_at, other_before, other_behind, other_moves, place}
+use Rattle.cv_check.specs.Shown.{Owed, owed, move_owed, place_owed, first_rows, later_rows}
 use Rattle.cv_check.proofs.Named.{IsFree}
-use Rattle.cv_check.proofs.Follows.{Each, Each-append, each_front, each_back, IsTrueAt, AreTrueAt, Follows, true_append}
+use Rattle.cv_check.proofs.Follows.{Each, each_front, each_back, AreTrueAt, Follows, true_append}
 
 -- ---- points of the three variables
 
@@ -146,8 +136,8 @@ module _ (b p : Name) (size : ℕ) (lt : size < 2147483648) (target : Bool) (row
     all_true k s h n guard w g =
         let at : ℕ → ℤ = point h.c (pos h.o) n in
         true_append at (rows_at rows k ++ guard) (facts size target)
-            (true_append at (rows_at rows k) guard (free_true (point h.c (pos h.o) (pos 0)) at refl refl (rows_at rows k) (free k) h.true_rows) g)
-            (facts_true f (s.vars p) h.c h.o n h.le w h.at)
+        (true_append at (rows_at rows k) guard (free_true (point h.c (pos h.o) (pos 0)) at refl refl (rows_at rows k) (free k) h.true_rows) g)
+        (facts_true f (s.vars p) h.c h.o n h.le w h.at)
 
     zero_within : WithinSize size (pos 0)
     zero_within = (omega (arith, ints), omega (arith, ints))
@@ -159,26 +149,28 @@ module _ (b p : Name) (size : ℕ) (lt : size < 2147483648) (target : Bool) (row
         AreTrueAt (point c o (pos 0)) (rows_at rows (suc k))
     next_true k s h n t c o w g ec eo kept =
         free_true (after_assigning t.assign (point h.c (pos h.o) n)) (point c o (pos 0)) ec eo (rows_at rows (suc k)) (free (suc k))
-            (moved_true (rows_at rows k) (rows_at rows (suc k)) (facts size target) t (point h.c (pos h.o) n) (all_true k s h n t.guard w g) (rows_at rows (suc k)) kept)
+        (moved_true (rows_at rows k) (rows_at rows (suc k)) (facts size target) t (point h.c (pos h.o) n) (all_true k s h n t.guard w g) (rows_at rows (suc k)) kept)
 
     abbrev pub Owes : Bool → ℕ → Form → Type 0
     Owes t k form = Each Follows (place_owed (rows_at rows k) (rows_at rows (suc k)) (facts size target) (place size t form))
 
     pub fine_address : (k : ℕ) (s : State) → target ≡ true → Holds f k s → Owes target k (Address p b) → IsFineTurn f k (turn P f k (Address p b) s)
     unfolding turn step
-    fine_address k s has h kept =
-        (refl, record {
-          site = h.site;
-          bytes = h.bytes;
-          is = h.is;
-          long = h.long;
-          c = pos 1;
-          o = 0;
-          le = omega arith;
-          at = inr (refl, has, set-same s.vars p _ ∙ rw (nar.has_buffer, add-zero) refl);
-          true_rows = next_true k s h (pos 0) (record { guard = []; assign = (0, number (pos 1)) ∷ (1, number (pos 0)) ∷ [] }) (pos 1) (pos 0) zero_within tt refl refl
-              (each_front Follows _ [] kept);
-        })
+    fine_address k s has h kept = (
+      refl,
+      record {
+        site = h.site;
+        bytes = h.bytes;
+        is = h.is;
+        long = h.long;
+        c = pos 1;
+        o = 0;
+        le = omega arith;
+        at = inr (refl, has, set-same s.vars p _ ∙ rw (nar.has_buffer, add-zero) refl);
+        true_rows = next_true k s h (pos 0) (record { guard = []; assign = (0, number (pos 1)) ∷ (1, number (pos 0)) ∷ [] }) (pos 1) (pos 0) zero_within tt refl refl
+            (each_front Follows _ [] kept);
+      },
+    )
 
     -- a wild pointer is excluded
     not_wild : (k : ℕ) (s : State) (h : Holds f k s) → h.c ≡ negsuc 0 → Follows (owed (rows_at rows k ++ at_nothing ++ facts size target) (number (negsuc 0))) → ⊥
@@ -202,19 +194,21 @@ module _ (b p : Name) (size : ℕ) (lt : size < 2147483648) (target : Bool) (row
         let to : (n : ℕ) × (pos h.o +ℤ z ≡ pos n) = natural (pos h.o +ℤ z) (omega (arith, ints, low)) in
         let within_size : to.0 ≤ size = omega (arith, ints, high, to.1) in
         let within_bytes : to.0 ≤ length h.bytes = omega (arith, h.long, within_size) in
-        rw (v, shift_is s.memory f.permit.first h.o h.site to.0 h.bytes z h.is to.1 within_bytes)
-        (refl, record {
-          site = h.site;
-          bytes = h.bytes;
-          is = h.is;
-          long = h.long;
-          c = pos 1;
-          o = to.0;
-          le = within_size;
-          at = inr (refl, has, set-same s.vars p _);
-          true_rows = next_true k s h (pos 0) (record { guard = at_buffer size; assign = (0, number (pos 1)) ∷ (1, plus 1 z) ∷ [] }) (pos 1) (pos to.0) zero_within inside refl
-              (omega (arith, ints, to.1)) (each_front Follows _ [] kept.1.1.1);
-        })
+        rw (v, shift_is s.memory f.permit.first h.o h.site to.0 h.bytes z h.is to.1 within_bytes) (
+          refl,
+          record {
+            site = h.site;
+            bytes = h.bytes;
+            is = h.is;
+            long = h.long;
+            c = pos 1;
+            o = to.0;
+            le = within_size;
+            at = inr (refl, has, set-same s.vars p _);
+            true_rows = next_true k s h (pos 0) (record { guard = at_buffer size; assign = (0, number (pos 1)) ∷ (1, plus 1 z) ∷ [] }) (pos 1) (pos to.0) zero_within inside refl
+                (omega (arith, ints, to.1)) (each_front Follows _ [] kept.1.1.1);
+          },
+        )
 
     second_move : (k : ℕ) (a b : Move) (more : List Move) →
         Each Follows (flat_map (move_owed (rows_at rows k) (rows_at rows (suc k)) (facts size target)) (a ∷ b ∷ more)) →
@@ -231,15 +225,15 @@ module _ (b p : Name) (size : ℕ) (lt : size < 2147483648) (target : Bool) (row
         let at : ℕ → ℤ = point h.c (pos h.o) n in
         let buf : AreTrueAt at (at_buffer size) = at_buffer_true k s h n e in
         next_true k s h n (zero_behind size) h.c (pos h.o)
-            (omega (arith, ints), omega (arith, ints)) (true_append at (at_buffer size) (has_byte size ∷ under 1 2 (pos 0) ∷ []) buf (omega (arith, ints), (omega (arith, ints), tt)))
-            (variable-value at 0) (variable-value at 1) (second_move k (zero_before size) (zero_behind size) [] kept)
+        (omega (arith, ints), omega (arith, ints)) (true_append at (at_buffer size) (has_byte size ∷ under 1 2 (pos 0) ∷ []) buf (omega (arith, ints), (omega (arith, ints), tt)))
+        (variable-value at 0) (variable-value at 1) (second_move k (zero_before size) (zero_behind size) [] kept)
     stored_true k s h e inside false kept =
         let n : ℤ = pos size in
         let at : ℕ → ℤ = point h.c (pos h.o) n in
         let buf : AreTrueAt at (at_buffer size) = at_buffer_true k s h n e in
         next_true k s h n (other_before size) h.c (pos h.o)
-            (omega (arith, ints), omega (arith, ints)) (true_append at (at_buffer size) (has_byte size ∷ over 1 2 (negsuc 0) ∷ []) buf (omega (arith, ints), (omega (arith, ints), tt)))
-            (variable-value at 0) (variable-value at 1) (second_move k (other_at size) (other_before size) (other_behind size ∷ []) kept)
+        (omega (arith, ints), omega (arith, ints)) (true_append at (at_buffer size) (has_byte size ∷ over 1 2 (negsuc 0) ∷ []) buf (omega (arith, ints), (omega (arith, ints), tt)))
+        (variable-value at 0) (variable-value at 1) (second_move k (other_at size) (other_before size) (other_behind size ∷ []) kept)
 
     stores : (k : ℕ) (s : State) (z : ℤ) (h : Holds f k s) → h.c ≡ pos 1 → target ≡ true → s.vars p ≡ value.Ptr (At f.permit.first h.o) →
         Owes true k (Store p (Number z)) → IsFineTurn f k (turn P f k (Store p (Number z)) s)
@@ -251,18 +245,20 @@ module _ (b p : Name) (size : ℕ) (lt : size < 2147483648) (target : Bool) (row
         let inside : h.o < size = omega (arith, ints, low) in
         let in_bytes : h.o < length h.bytes = omega (arith, h.long, inside) in
         let same : f.permit.first ≤ f.permit.first = omega arith in
-        rw (v, store_is s.memory f.permit.first h.o h.site (low_byte z) h.bytes f.permit h.is in_bytes, writable_own f.permit f.permit.first _ nar.literals same)
-        (refl, record {
-          site = h.site;
-          bytes = slice_set h.bytes h.o (low_byte z);
-          is = get-set s.memory f.permit.first _ _ h.is;
-          long = length-set h.bytes h.o _ ∙ h.long;
-          c = h.c;
-          o = h.o;
-          le = h.le;
-          at = inr (e, has, v);
-          true_rows = stored_true k s h e inside (low_byte z == 0) kept.1.1;
-        })
+        rw (v, store_is s.memory f.permit.first h.o h.site (low_byte z) h.bytes f.permit h.is in_bytes, writable_own f.permit f.permit.first _ nar.literals same) (
+          refl,
+          record {
+            site = h.site;
+            bytes = slice_set h.bytes h.o (low_byte z);
+            is = get-set s.memory f.permit.first _ _ h.is;
+            long = length-set h.bytes h.o _ ∙ h.long;
+            c = h.c;
+            o = h.o;
+            le = h.le;
+            at = inr (e, has, v);
+            true_rows = stored_true k s h e inside (low_byte z == 0) kept.1.1;
+          },
+        )
 
     pub fine_shift : (k : ℕ) (s : State) (z : ℤ) (h : Holds f k s) → PointsAt f.permit.first target (s.vars p) h.c h.o → Owes target k (Shift p p (Number z)) →
         IsFineTurn f k (turn P f k (Shift p p (Number z)) s)

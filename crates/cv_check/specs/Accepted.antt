@@ -1,24 +1,20 @@
 -- Which texts are certificates of a straight-line program.
-use Rattle.std.specs.Prelude.{◌≡◌, ℕ, ◌+◌, ◌≤◌, ◌<◌, ◌==◌, ◌&&◌, ◌||◌, not, nat_le, nat_lt, Bool, true, false, List, [], ◌∷◌, ◌++◌, length, map, codes, Option, Some, None, option_and_then, IsTrue}
+use Rattle.std.specs.Prelude.{◌≡◌, ℕ, ◌+◌, ◌==◌, ◌&&◌, ◌||◌, not, nat_le, nat_lt, Bool, true, false, List, [], ◌∷◌, ◌++◌, length, codes, Option, Some, None, IsTrue}
 use Rattle.std.specs.List.{list_any, list_all}
 use Rattle.cv_core.specs.Names.{stmts_of, locals_of}
 use Rattle.cv_core.specs.declared.program.Program.{Program}
 use Rattle.cv_core.specs.declared.program.Proc.{Proc}
 use Rattle.cv_core.specs.declared.program.ProcBody.{ProcBody}
 use Rattle.cv_core.specs.declared.program.Local.{Local}
-use Rattle.cv_core.specs.declared.program.LocalBody.{LocalBody}
 use Rattle.cv_core.specs.declared.program.LocalBody.TheVariants as local
 use Rattle.cv_core.specs.declared.program.Stmt.{Stmt}
 use Rattle.cv_num.specs.declared.rows.Row.{Row}
-use Rattle.cv_farkas.specs.declared.steps.Step.{Step}
 use Rattle.cv_cert.specs.Certificate.{Certificate, IsCertificate}
 use Rattle.cv_cert.specs.Text.{text_of}
 use Rattle.cv_cert.specs.declared.certificate.Block.{Block}
 use Rattle.cv_cert.specs.declared.certificate.CertCase.{CertCase}
-use Rattle.cv_check.specs.declared.place.Group.{Group}
-use Rattle.cv_check.specs.declared.place.Move.{Move}
 use Rattle.cv_check.specs.declared.place.Place.{Place}
-use Rattle.cv_check.specs.Integer.{has_address, facts, entry, place}
+use Rattle.cv_check.specs.Integer.{has_address, facts, place}
 use Rattle.cv_check.specs.Shown.{Owed, entry_owed, stmts_owed, all_shown, first_rows, later_rows}
 
 -- ---- the parts of a straight-line program

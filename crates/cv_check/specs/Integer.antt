@@ -1,6 +1,6 @@
 -- The integer program of a straight-line main over one buffer b of a declared size and one pointer p. Its variables are the code
 -- of p (-1: nothing known, 1: the buffer), the offset of p, and the first zero of b; a store has one fresh variable beside them.
-use Rattle.std.specs.Prelude.{ℕ, Bool, true, false, not, ◌&&◌, ◌==◌, List, [], ◌∷◌, ◌++◌, Option, Some, None, if◌then◌else◌, ℤ, pos, negsuc, ◌+ℤ◌, ◌-ℤ◌}
+use Rattle.std.specs.Prelude.{ℕ, Bool, true, false, ◌==◌, List, [], ◌∷◌, ◌++◌, if◌then◌else◌, ℤ, pos, negsuc, ◌-ℤ◌}
 use Rattle.std.specs.List.{list_any}
 use Rattle.cv_num.specs.declared.rows.Row.{Row}
 use Rattle.cv_check.specs.declared.place.Group.{Group}

@@ -1,17 +1,19 @@
 //! The rules of a valid certificate.
-ghost use Rattle.std.specs.Prelude.{◌≡◌, ◌==◌, ◌↔◌, ◌≤◌, nat_lt, ◌<◌, [], ◌∷◌, length, All, IfOk, IsTrue, MatchOption, Some, None};
+ghost use Rattle.std.specs.Prelude.{◌≡◌, ◌==◌, ◌↔◌, ◌≤◌, nat_lt, codes, ◌<◌, [], ◌∷◌, length, All, IfOk, IsTrue, MatchOption, Some, None};
 ghost use Rattle.std.specs.List.{list_all, list_any};
-ghost use Rattle.cv_check.specs.Accepted.{points_to as points_to_of, names_pointer as names_pointer_of, IsCaseValid, IsBlockValid, IsCertificateValid, all_owed};
+ghost use Rattle.cv_check.specs.Accepted.{points_to as points_to_of, names_pointer as names_pointer_of, IsCaseValid, IsBlockValid, IsCertificateValid, IsAccepted, all_owed};
+ghost use Rattle.cv_meaning.specs.Clean.{Clean};
+ghost use Rattle.cv_text.specs.Narrow.{IsNarrow};
 ghost use Rattle.cv_check.specs.Integer.{has_address as has_address_of};
 ghost use Rattle.cv_check.specs.Shown.{all_shown, entry_owed};
 
 use crate::place::{entry, facts};
-use crate::program::has_address;
+use crate::program::{buffer_size, has_address, statements};
 use crate::rows::hypotheses;
 use crate::shown::goals_shown;
 use crate::walk::{first_rows, statements_shown, statements_sized};
-use cv_cert::{Block, Cert, CertCase};
-use cv_core::{List, Stmt};
+use cv_cert::{Block, Cert, CertCase, CertError, read_cert};
+use cv_core::{List, Program, Stmt};
 use cv_farkas::Step;
 use cv_num::Row;
 use std::alloc::{AllocError, Global};
@@ -123,4 +125,77 @@ fn is_formed(stmts: &[Stmt], case: &CertCase) -> bool
     let rows = case.rows.as_slice();
     let named = all_name_pointer(rows);
     rows.len() == stmts.len() && named && case.picks.is_empty()
+}
+
+/// Whether the block is of `main`.
+fn is_main(name: &[u8]) -> bool
+    ensures { IsTrue result ↔ (name.now ≡ codes "main") }
+{
+    name == b"main".as_slice()
+}
+
+/// Whether the block is of `main` and has one case, which is valid.
+fn is_block_valid(
+    alloc: Global,
+    size: u32,
+    stmts: &[Stmt],
+    block: &Block,
+) -> Result<bool, AllocError>
+    ensures { IfOk result (λ valid. IsTrue valid ↔ IsBlockValid size stmts.now block.now) }
+{
+    let named = is_main(block.name.as_slice());
+    if !named {
+        return Ok(false);
+    }
+    match block.cases.as_slice() {
+        [case] => {
+            let valid = is_case_valid(alloc, size, stmts, case)?;
+            Ok(valid)
+        },
+        _ => Ok(false),
+    }
+}
+
+/// Whether the certificate is valid for the statements over a buffer of this size.
+fn is_certificate_valid(
+    alloc: Global,
+    size: u32,
+    stmts: &[Stmt],
+    cert: &Cert,
+) -> Result<bool, AllocError>
+    ensures { IfOk result (λ valid. IsTrue valid ↔ IsCertificateValid size stmts.now cert.now) }
+{
+    let points = points_to(stmts, cert.sets.sets.as_slice());
+    if !points {
+        return Ok(false);
+    }
+    match cert.blocks.as_slice() {
+        [block] => {
+            let valid = is_block_valid(alloc, size, stmts, block)?;
+            Ok(valid)
+        },
+        _ => Ok(false),
+    }
+}
+
+/// Whether the bytes are the text of a certificate that is valid for a straight-line program; at most
+/// 4294967294 bytes. A straight-line program with such a certificate is clean. An error is want of
+/// memory.
+pub fn check_narrow(alloc: Global, p: &Program, text: &[u8]) -> Result<bool, AllocError>
+    requires { length text.now ≤ 4294967294 }
+    // True exactly for the texts of valid certificates.
+    ensures exact { IfOk result (λ accepted. IsTrue accepted ↔ IsAccepted p.now text.now) }
+    // An accepted straight-line program is clean.
+    ensures clean { IfOk result (λ accepted. IsTrue accepted → IsNarrow p.now → Clean p.now) }
+{
+    let size = buffer_size(p);
+    let stmts = statements(p);
+    match read_cert(alloc, text) {
+        Ok(cert) => {
+            let valid = is_certificate_valid(alloc, size, stmts, &cert)?;
+            Ok(valid)
+        },
+        Err(CertError::Line(_)) => Ok(false),
+        Err(CertError::Memory) => Err(AllocError),
+    }
 }

@@ -8,3 +8,5 @@ mod program;
 mod rows;
 mod shown;
 mod walk;
+
+pub use check::check_narrow;

@@ -32,8 +32,11 @@ pub(crate) struct Place {
 }
 
 const CODE: u32 = 0;
+
 const OFFSET: u32 = 1;
+
 const FIRST_ZERO: u32 = 2;
+
 const FRESH: u32 = 3;
 
 /// The ranges of the three variables.
@@ -164,12 +167,7 @@ fn has_byte(alloc: Global, size: u32) -> Result<Row, AllocError>
 }
 
 /// Where a byte lies at the offset, and more holds, these assignments.
-fn stored(
-    alloc: Global,
-    size: u32,
-    more: Vec<Row>,
-    assign: Assign,
-) -> Result<Move, AllocError>
+fn stored(alloc: Global, size: u32, more: Vec<Row>, assign: Assign) -> Result<Move, AllocError>
     ensures { IfOk result (λ t. t ≡ stored_of size more.items assign) }
 {
     let mut guard = at_buffer(alloc, size)?;
@@ -304,8 +302,14 @@ pub(crate) fn statement_place(
 {
     match form {
         Form::Address { .. } => address_place(alloc),
-        Form::Shift { e: Operand::Number(k), .. } => shift_place(alloc, size, target, *k),
-        Form::Store { e: Operand::Number(k), .. } => store_place(alloc, size, target, *k),
+        Form::Shift {
+            e: Operand::Number(k),
+            ..
+        } => shift_place(alloc, size, target, *k),
+        Form::Store {
+            e: Operand::Number(k),
+            ..
+        } => store_place(alloc, size, target, *k),
         Form::Return(_) => return_place(alloc),
         _ => Ok(no_place(alloc)),
     }

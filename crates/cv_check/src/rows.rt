@@ -4,7 +4,6 @@ ghost use Rattle.cv_num.specs.Pairs.{IsCanonical};
 ghost use Rattle.cv_num.specs.Algebra.{number as number_of};
 ghost use Rattle.cv_check.specs.Integer.{plus as plus_of, less as less_of, over as over_of, under as under_of};
 
-
 use cv_num::{Row, RowError, row};
 use std::alloc::{AllocError, Global};
 

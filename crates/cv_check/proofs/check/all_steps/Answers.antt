@@ -11,9 +11,9 @@ returns-in_default c =
 pub returns-in-None : goal.returns-in-None
 returns-in-None c =
     back_fails (entry_owed c.args.size (has_address c.args.stmts.now) c.args.rows.now) (stmts_owed c.args.size (has_address c.args.stmts.now) c.args.stmts.now c.args.rows.now) c.args.steps.now c.in-Some.left.now
-        (search rules) (search rules)
+    (search rules) (search rules)
 
 pub returns : goal.returns
 returns c =
     both_shown (entry_owed c.args.size (has_address c.args.stmts.now) c.args.rows.now) (stmts_owed c.args.size (has_address c.args.stmts.now) c.args.stmts.now c.args.rows.now) c.args.steps.now c.in-Some.left.now c.in-Some-2.last.now
-        (search rules) (search rules)
+    (search rules) (search rules)

@@ -1,4 +1,4 @@
-use Rattle.std.proofs.Common.{◌≡◌, length, map, drop}
+use Rattle.std.proofs.Common.{◌≡◌, map, drop}
 use Rattle.cv_num.specs.Algebra.{substituted}
 use Rattle.cv_check.specs.Shown.{owed, all_shown}
 use Rattle.cv_check.proofs.shown.move_shown.Given as goal

@@ -9,9 +9,9 @@ returns-in_default t c =
 pub returns-in-None : goal.returns-in-None
 returns-in-None t c =
     later_fails c.args.size c.args.target c.args.stmts.now c.args.rows.now c.args.steps.now c.in-Some.left.now c.first-item.result _
-        c.later_rows-later.result.now c.later_rows-later.ensures.value c.in-len1-up.len_at_least c.first-item.is (search rules) (search rules)
+    c.later_rows-later.result.now c.later_rows-later.ensures.value c.in-len1-up.len_at_least c.first-item.is (search rules) (search rules)
 
 pub returns-in-Some-2 : goal.returns-in-Some-2
 returns-in-Some-2 t c =
     stmts_shown c.args.size c.args.target c.args.stmts.now c.args.rows.now c.args.steps.now c.in-Some.left.now c.in-Some-2.last.now c.first-item.result _
-        c.later_rows-later.result.now c.later_rows-later.ensures.value c.in-len1-up.len_at_least c.first-item.is (search rules) (search rules)
+    c.later_rows-later.result.now c.later_rows-later.ensures.value c.in-len1-up.len_at_least c.first-item.is (search rules) (search rules)
