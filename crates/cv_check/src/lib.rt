@@ -10,3 +10,6 @@ mod shown;
 mod walk;
 
 pub use check::check_narrow;
+
+#[cfg(test)]
+mod tests;
