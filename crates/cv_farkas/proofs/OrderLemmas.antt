@@ -58,8 +58,7 @@ below-shift f g p q e b =
 -- the same, with the variable in a range
 pub shift_within : (f g p q : ℕ → ℤ) (n : ℕ) → ((u : ℕ) → f u +ℤ q u ≡ g u +ℤ p u) → (b : IsBelow f g) × (b.at < n) → (b : IsBelow p q) × (b.at < n)
 shift_within f g p q n e s =
-    let m : f s.0.at <ℤ g s.0.at = s.0.less in
-    (
+    let m : f s.0.at <ℤ g s.0.at = s.0.less in (
       record {
         at = s.0.at;
         less = (let k : f s.0.at +ℤ q s.0.at ≡ g s.0.at +ℤ p s.0.at = e s.0.at in omega (arith, ints));
@@ -196,10 +195,10 @@ constant_before a b e l =
     below-lt a b (record {
       at = 2 ^ 32;
       less = (
-        let x : coefficient_of (entries a) (2 ^ 32) ≡ coefficient_of a.pairs (2 ^ 32) +ℤ a.constant = last_entry a (2 ^ 32) refl in
-        let y : coefficient_of (entries b) (2 ^ 32) ≡ coefficient_of b.pairs (2 ^ 32) +ℤ b.constant = last_entry b (2 ^ 32) refl in
-        less_by (coefficient_of (entries a) (2 ^ 32)) (coefficient_of (entries b) (2 ^ 32)) (coefficient_of a.pairs (2 ^ 32)) (coefficient_of b.pairs (2 ^ 32)) a.constant b.constant x y (e (2 ^ 32)) l
-      );
+          let x : coefficient_of (entries a) (2 ^ 32) ≡ coefficient_of a.pairs (2 ^ 32) +ℤ a.constant = last_entry a (2 ^ 32) refl in
+          let y : coefficient_of (entries b) (2 ^ 32) ≡ coefficient_of b.pairs (2 ^ 32) +ℤ b.constant = last_entry b (2 ^ 32) refl in
+          less_by (coefficient_of (entries a) (2 ^ 32)) (coefficient_of (entries b) (2 ^ 32)) (coefficient_of a.pairs (2 ^ 32)) (coefficient_of b.pairs (2 ^ 32)) a.constant b.constant x y (e (2 ^ 32)) l
+          );
       same = λ u k. other_entry a u (under u k) ∙ (e u ∙ sym (other_entry b u (under u k)));
     })
   where

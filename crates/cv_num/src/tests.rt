@@ -145,7 +145,11 @@ fn reduced(alloc: Global, r: (i64, i64)) -> Result<Option<(i64, i64)>, Fail> {
 fn values_and_divisors(rt: HostRuntime) -> Result<(), Fail> {
     let values = [
         ((2, 3), 5, Some(13)),
-        ((i64::MIN, 3), 1099511627776, Some(3 - 10141204801825835211973625643008)),
+        (
+            (i64::MIN, 3),
+            1099511627776,
+            Some(3 - 10141204801825835211973625643008),
+        ),
         ((2, 3), i64::MAX, None),
         ((0, 3), i64::MAX, Some(3)),
     ];
