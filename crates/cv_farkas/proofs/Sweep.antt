@@ -1,7 +1,6 @@
 -- Lists of pairs, taken apart variable by variable from the least on.
-use Rattle.std.proofs.Common.{◌≡◌, ◌≢◌, ℕ, ◌<◌, ◌≤◌, ◌+◌, ◌-◌, ◌^◌, ℤ, pos, ◌+ℤ◌, ◌*ℤ◌, ◌<ℤ◌, List, [], ◌∷◌, ◌⊎◌, inl, inr, Bool, true, false, refl, sym, subst, ◌∙◌, ap, arith, nat_eq, eqb-true, length, take, drop, slice_index_or, zero, suc, if◌then◌else◌}
+use Rattle.std.proofs.Common.{◌≡◌, ◌≢◌, ℕ, ◌<◌, ◌≤◌, ◌+◌, ◌-◌, ◌^◌, ℤ, pos, ◌+ℤ◌, ◌*ℤ◌, ◌<ℤ◌, List, [], ◌∷◌, ◌⊎◌, inl, inr, Bool, true, false, refl, sym, subst, ◌∙◌, ap, arith, nat_eq, eqb-true, length, take, drop, slice_index_or, if◌then◌else◌}
 use Rattle.std.specs.Prelude.{int_lt}
-use Rattle.std.specs.List.{All}
 use Rattle.std.proofs.lemmas.Int.{ints}
 use Rattle.std.proofs.lemmas.Bool.{cases_order, cases_lt}
 use Rattle.std.proofs.lemmas.List.Elements.{All-weaker}
@@ -10,7 +9,7 @@ use Rattle.cv_num.specs.Pairs.{IsCanonical, coefficient_of}
 use Rattle.cv_num.specs.Coefficients.{coefficient_of-head, coefficient_of-under, coefficient_of-above}
 use Rattle.cv_num.proofs.Build.{take_past}
 use Rattle.std.specs.declared.cmp.Ordering.TheVariants.{Less, Greater}
-use Rattle.cv_farkas.specs.Order.{IsBelow, IsCompared, IsSplit}
+use Rattle.cv_farkas.specs.Order.{IsCompared, IsSplit}
 
 -- ---- one list
 cons_split : (x : ℕ × ℤ) (xs : List (ℕ × ℤ)) → IsCanonical (x ∷ xs) → IsSplit (x ∷ xs) x.0 x.1 xs
