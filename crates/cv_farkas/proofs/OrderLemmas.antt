@@ -1,15 +1,13 @@
 -- The order of rows is a strict order in which any two compare, and sums keep it.
-use Rattle.std.proofs.Common.{◌≡◌, ◌≢◌, ℕ, ◌<◌, ◌≤◌, ◌^◌, ℤ, pos, negsuc, ◌+ℤ◌, ◌*ℤ◌, ◌<ℤ◌, ◌≤ℤ◌, neg_ℤ, List, [], ◌∷◌, ◌++◌, ◌⊎◌, inl, inr, Bool, true, false, refl, sym, subst, ◌∙◌, ap, arith, zero, suc, nat_eq, eqb-true, if◌then◌else◌}
+use Rattle.std.proofs.Common.{◌≡◌, ◌≢◌, ℕ, ◌<◌, ◌^◌, ℤ, pos, negsuc, ◌+ℤ◌, ◌*ℤ◌, ◌<ℤ◌, ◌≤ℤ◌, List, [], ◌∷◌, ◌⊎◌, inl, inr, Bool, true, false, refl, sym, subst, ◌∙◌, arith, zero, suc, nat_eq, eqb-true, if◌then◌else◌}
 use Rattle.std.specs.Prelude.{int_lt}
 use Rattle.std.specs.Ordering.{int_cmp, is_lt, MatchOrdering}
 use Rattle.std.proofs.lemmas.Cmp.{int_ranked}
 use Rattle.std.specs.declared.cmp.Ordering.{Ordering}
 use Rattle.std.specs.declared.cmp.Ordering.TheVariants.{Less, Equal, Greater}
 use Rattle.std.specs.Cmp.{IsStrictWeakOrder}
-use Rattle.std.specs.List.{All}
 use Rattle.std.proofs.lemmas.Int.{ints}
 use Rattle.std.proofs.lemmas.Bool.{false≢true, cases_order, cases_eq, eqb-false, false_from_ne_true, both_ways}
-use Rattle.std.proofs.Math.IntN.{*ℤ-zero}
 use Rattle.cv_num.specs.declared.rows.Row.{Row}
 use Rattle.cv_num.specs.Pairs.{IsCanonical, coefficient_of}
 use Rattle.cv_num.specs.Whole.{minus_one-*}
@@ -58,8 +56,7 @@ below-shift f g p q e b =
 -- the same, with the variable in a range
 pub shift_within : (f g p q : ℕ → ℤ) (n : ℕ) → ((u : ℕ) → f u +ℤ q u ≡ g u +ℤ p u) → (b : IsBelow f g) × (b.at < n) → (b : IsBelow p q) × (b.at < n)
 shift_within f g p q n e s =
-    let m : f s.0.at <ℤ g s.0.at = s.0.less in
-    (
+    let m : f s.0.at <ℤ g s.0.at = s.0.less in (
       record {
         at = s.0.at;
         less = (let k : f s.0.at +ℤ q s.0.at ≡ g s.0.at +ℤ p s.0.at = e s.0.at in omega (arith, ints));
@@ -196,10 +193,10 @@ constant_before a b e l =
     below-lt a b (record {
       at = 2 ^ 32;
       less = (
-        let x : coefficient_of (entries a) (2 ^ 32) ≡ coefficient_of a.pairs (2 ^ 32) +ℤ a.constant = last_entry a (2 ^ 32) refl in
-        let y : coefficient_of (entries b) (2 ^ 32) ≡ coefficient_of b.pairs (2 ^ 32) +ℤ b.constant = last_entry b (2 ^ 32) refl in
-        less_by (coefficient_of (entries a) (2 ^ 32)) (coefficient_of (entries b) (2 ^ 32)) (coefficient_of a.pairs (2 ^ 32)) (coefficient_of b.pairs (2 ^ 32)) a.constant b.constant x y (e (2 ^ 32)) l
-      );
+          let x : coefficient_of (entries a) (2 ^ 32) ≡ coefficient_of a.pairs (2 ^ 32) +ℤ a.constant = last_entry a (2 ^ 32) refl in
+          let y : coefficient_of (entries b) (2 ^ 32) ≡ coefficient_of b.pairs (2 ^ 32) +ℤ b.constant = last_entry b (2 ^ 32) refl in
+          less_by (coefficient_of (entries a) (2 ^ 32)) (coefficient_of (entries b) (2 ^ 32)) (coefficient_of a.pairs (2 ^ 32)) (coefficient_of b.pairs (2 ^ 32)) a.constant b.constant x y (e (2 ^ 32)) l
+          );
       same = λ u k. other_entry a u (under u k) ∙ (e u ∙ sym (other_entry b u (under u k)));
     })
   where

@@ -149,11 +149,10 @@ other_numbers x (e ∷ es) h =
 numbers_distinct : (n : ℕ) (es : List Entry) → ((k : ℕ) (d : Entry) → k < length es → (slice_index_or es k d).number ≡ n + k) → IsDistinct same_number es
 unfolding IsDistinct
 numbers_distinct n [] h = tt
-numbers_distinct n (e ∷ es) h =
-    (
-      other_numbers e es (λ k d l same. let p : e.number ≡ n + 0 = h 0 d (omega arith) in let q : (slice_index_or es k d).number ≡ n + suc k = h (suc k) d (omega arith) in absurd (omega arith)),
-      numbers_distinct (n + 1) es (λ k d l. let q : (slice_index_or es k d).number ≡ n + suc k = h (suc k) d (omega arith) in omega arith),
-    )
+numbers_distinct n (e ∷ es) h = (
+  other_numbers e es (λ k d l same. let p : e.number ≡ n + 0 = h 0 d (omega arith) in let q : (slice_index_or es k d).number ≡ n + suc k = h (suc k) d (omega arith) in absurd (omega arith)),
+  numbers_distinct (n + 1) es (λ k d l. let q : (slice_index_or es k d).number ≡ n + suc k = h (suc k) d (omega arith) in omega arith),
+)
 
 not_among : (x : Entry) (es : List Entry) (k : ℕ) (d : Entry) → AllByRecursion (λ y. same_number x y ≡ false) es → k < length es → x.number ≢ (slice_index_or es k d).number
 not_among x [] k d h l = absurd (omega arith)

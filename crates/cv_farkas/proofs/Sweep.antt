@@ -1,7 +1,6 @@
 -- Lists of pairs, taken apart variable by variable from the least on.
-use Rattle.std.proofs.Common.{◌≡◌, ◌≢◌, ℕ, ◌<◌, ◌≤◌, ◌+◌, ◌-◌, ◌^◌, ℤ, pos, ◌+ℤ◌, ◌*ℤ◌, ◌<ℤ◌, List, [], ◌∷◌, ◌⊎◌, inl, inr, Bool, true, false, refl, sym, subst, ◌∙◌, ap, arith, nat_eq, eqb-true, length, take, drop, slice_index_or, zero, suc, if◌then◌else◌}
+use Rattle.std.proofs.Common.{◌≡◌, ◌≢◌, ℕ, ◌<◌, ◌≤◌, ◌+◌, ◌-◌, ◌^◌, ℤ, pos, ◌+ℤ◌, ◌*ℤ◌, ◌<ℤ◌, List, [], ◌∷◌, ◌⊎◌, inl, inr, Bool, true, false, refl, sym, subst, ◌∙◌, ap, arith, nat_eq, eqb-true, length, take, drop, slice_index_or, if◌then◌else◌}
 use Rattle.std.specs.Prelude.{int_lt}
-use Rattle.std.specs.List.{All}
 use Rattle.std.proofs.lemmas.Int.{ints}
 use Rattle.std.proofs.lemmas.Bool.{cases_order, cases_lt}
 use Rattle.std.proofs.lemmas.List.Elements.{All-weaker}
@@ -10,7 +9,7 @@ use Rattle.cv_num.specs.Pairs.{IsCanonical, coefficient_of}
 use Rattle.cv_num.specs.Coefficients.{coefficient_of-head, coefficient_of-under, coefficient_of-above}
 use Rattle.cv_num.proofs.Build.{take_past}
 use Rattle.std.specs.declared.cmp.Ordering.TheVariants.{Less, Greater}
-use Rattle.cv_farkas.specs.Order.{IsBelow, IsCompared, IsSplit}
+use Rattle.cv_farkas.specs.Order.{IsCompared, IsSplit}
 
 -- ---- one list
 cons_split : (x : ℕ × ℤ) (xs : List (ℕ × ℤ)) → IsCanonical (x ∷ xs) → IsSplit (x ∷ xs) x.0 x.1 xs
@@ -105,12 +104,14 @@ pub sweep_below : (left right goal : List (ℕ × ℤ)) (k : ℤ) (l r g : List 
     → coefficient_of l v ≡ x → coefficient_of r v ≡ y → coefficient_of g v ≡ z → (x +ℤ k *ℤ y) <ℤ z → v < 2 ^ 32 → IsCompared Less (λ u. coefficient_of left u +ℤ k *ℤ coefficient_of right u) (coefficient_of goal)
 sweep_below left right goal k l r g from v x y z s n ex ey ez m inside =
     let p : k *ℤ coefficient_of r v ≡ k *ℤ y = ap (λ w. k *ℤ w) ey in
-    let b : (coefficient_of left v +ℤ k *ℤ coefficient_of right v) +ℤ coefficient_of g v ≡ coefficient_of goal v +ℤ (coefficient_of l v +ℤ k *ℤ coefficient_of r v) = s.balance v in
-    (record {
-      at = v;
-      less = less_at (coefficient_of left v +ℤ k *ℤ coefficient_of right v) (coefficient_of goal v) (coefficient_of l v) (k *ℤ coefficient_of r v) (coefficient_of g v) x (k *ℤ y) z b ex p ez m;
-      same = λ u h. sides_same (coefficient_of left u +ℤ k *ℤ coefficient_of right u) (coefficient_of goal u) k (coefficient_of l u) (coefficient_of r u) (coefficient_of g u) ((n u h).0) ((n u h).1) ((n u h).2) (s.balance u);
-    }, inside)
+    let b : (coefficient_of left v +ℤ k *ℤ coefficient_of right v) +ℤ coefficient_of g v ≡ coefficient_of goal v +ℤ (coefficient_of l v +ℤ k *ℤ coefficient_of r v) = s.balance v in (
+      record {
+        at = v;
+        less = less_at (coefficient_of left v +ℤ k *ℤ coefficient_of right v) (coefficient_of goal v) (coefficient_of l v) (k *ℤ coefficient_of r v) (coefficient_of g v) x (k *ℤ y) z b ex p ez m;
+        same = λ u h. sides_same (coefficient_of left u +ℤ k *ℤ coefficient_of right u) (coefficient_of goal u) k (coefficient_of l u) (coefficient_of r u) (coefficient_of g u) ((n u h).0) ((n u h).1) ((n u h).2) (s.balance u);
+      },
+      inside,
+    )
   where
     less_at : (f g l r h x y z : ℤ) → f +ℤ h ≡ g +ℤ (l +ℤ r) → l ≡ x → r ≡ y → h ≡ z → (x +ℤ y) <ℤ z → f <ℤ g
     less_at f g l r h x y z e el er eh m = omega (arith, ints)
@@ -119,12 +120,14 @@ pub sweep_above : (left right goal : List (ℕ × ℤ)) (k : ℤ) (l r g : List 
     → coefficient_of l v ≡ x → coefficient_of r v ≡ y → coefficient_of g v ≡ z → z <ℤ (x +ℤ k *ℤ y) → v < 2 ^ 32 → IsCompared Greater (λ u. coefficient_of left u +ℤ k *ℤ coefficient_of right u) (coefficient_of goal)
 sweep_above left right goal k l r g from v x y z s n ex ey ez m inside =
     let p : k *ℤ coefficient_of r v ≡ k *ℤ y = ap (λ w. k *ℤ w) ey in
-    let b : (coefficient_of left v +ℤ k *ℤ coefficient_of right v) +ℤ coefficient_of g v ≡ coefficient_of goal v +ℤ (coefficient_of l v +ℤ k *ℤ coefficient_of r v) = s.balance v in
-    (record {
-      at = v;
-      less = less_at (coefficient_of left v +ℤ k *ℤ coefficient_of right v) (coefficient_of goal v) (coefficient_of l v) (k *ℤ coefficient_of r v) (coefficient_of g v) x (k *ℤ y) z b ex p ez m;
-      same = λ u h. sym (sides_same (coefficient_of left u +ℤ k *ℤ coefficient_of right u) (coefficient_of goal u) k (coefficient_of l u) (coefficient_of r u) (coefficient_of g u) ((n u h).0) ((n u h).1) ((n u h).2) (s.balance u));
-    }, inside)
+    let b : (coefficient_of left v +ℤ k *ℤ coefficient_of right v) +ℤ coefficient_of g v ≡ coefficient_of goal v +ℤ (coefficient_of l v +ℤ k *ℤ coefficient_of r v) = s.balance v in (
+      record {
+        at = v;
+        less = less_at (coefficient_of left v +ℤ k *ℤ coefficient_of right v) (coefficient_of goal v) (coefficient_of l v) (k *ℤ coefficient_of r v) (coefficient_of g v) x (k *ℤ y) z b ex p ez m;
+        same = λ u h. sym (sides_same (coefficient_of left u +ℤ k *ℤ coefficient_of right u) (coefficient_of goal u) k (coefficient_of l u) (coefficient_of r u) (coefficient_of g u) ((n u h).0) ((n u h).1) ((n u h).2) (s.balance u));
+      },
+      inside,
+    )
   where
     less_at : (f g l r h x y z : ℤ) → f +ℤ h ≡ g +ℤ (l +ℤ r) → l ≡ x → r ≡ y → h ≡ z → z <ℤ (x +ℤ y) → g <ℤ f
     less_at f g l r h x y z e el er eh m = omega (arith, ints)

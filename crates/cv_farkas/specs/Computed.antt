@@ -108,8 +108,7 @@ parts_from least n (p ∷ ps) e =
     let c = and_parts (nat_le least p.0 && nat_lt p.0 n) (nat_le 1 p.1) b.0 in
     let d = and_parts (nat_le least p.0) (nat_lt p.0 n) c.0 in
     let more = parts_from (suc p.0) n ps a.1 in
-    let l : least ≤ p.0 = leb-true least p.0 d.0 in
-    (
+    let l : least ≤ p.0 = leb-true least p.0 d.0 in (
       All-cons (λ q. least ≤ q.0) p ps l (All-weaker (λ q. suc p.0 ≤ q.0) (λ q. least ≤ q.0) (λ q h. omega arith) ps more.0),
       (ltb-true p.0 n d.1, leb-true 1 p.1 c.1, leb-true p.1 2147483647 b.1, All-weaker (λ q. suc p.0 ≤ q.0) (λ q. p.0 < q.0) (λ q h. omega arith) ps more.0, more.1),
     )
@@ -129,8 +128,7 @@ holds_from hyps goal s e =
     let a = and_parts (nat_le (length hyps) 4096 && nat_le 1 s.d && nat_le s.d 65535 && are_parts 0 (length hyps) s.parts) (covers hyps (as_row goal) s.d s.parts || ((s.d == 1) && covers hyps (number (negsuc 0)) 1 s.parts)) e in
     let b = and_parts (nat_le (length hyps) 4096 && nat_le 1 s.d && nat_le s.d 65535) (are_parts 0 (length hyps) s.parts) a.0 in
     let c = and_parts (nat_le (length hyps) 4096 && nat_le 1 s.d) (nat_le s.d 65535) b.0 in
-    let d = and_parts (nat_le (length hyps) 4096) (nat_le 1 s.d) c.0 in
-    (
+    let d = and_parts (nat_le (length hyps) 4096) (nat_le 1 s.d) c.0 in (
       record { few = leb-true (length hyps) 4096 d.0; positive = leb-true 1 s.d d.1; at_most = leb-true s.d 65535 c.1; listed = (parts_from 0 (length hyps) s.parts b.1).1 },
       either (or_cases (covers hyps (as_row goal) s.d s.parts) ((s.d == 1) && covers hyps (number (negsuc 0)) 1 s.parts) a.1),
     )

@@ -108,11 +108,7 @@ fn lone_part(hyps: &[Row], goal: &Wide) -> Option<u32>
 }
 
 /// Two hypotheses whose sum proves the goal, or a contradiction. An error is want of memory.
-fn two_parts(
-    alloc: Global,
-    hyps: &[Row],
-    goal: &Wide,
-) -> Result<Option<(u32, u32)>, AllocError>
+fn two_parts(alloc: Global, hyps: &[Row], goal: &Wide) -> Result<Option<(u32, u32)>, AllocError>
     requires { length hyps.now ≤ 4096 }
     ensures { IfOk result (λ found. MatchOption found ((i j : ℕ) → ¬ (HoldsBy hyps.now goal.now 1 ((i, 1) ∷ (j, 1) ∷ []))) (λ p. IsTwoParts hyps.now goal.now p.0 p.1)) }
 {

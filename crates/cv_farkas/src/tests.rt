@@ -1,11 +1,16 @@
 //! Steps that hold and steps that do not.
+ghost use Rattle.std.specs.Prelude.{◌≤◌, ◌^◌, All, IfOk};
+ghost use Rattle.std.specs.Int.RustNames.{unsigned_abs};
+
 use crate::{Step, direct, prove, step_holds};
 use cv_list::List;
 use cv_num::{Row, Wide, row, widen};
 use std::alloc::{AllocError, Global};
 use std::test::Fail;
 
-fn wide(alloc: Global, pairs: &[(u32, i64)], constant: i64) -> Result<Wide, Fail> {
+fn wide(alloc: Global, pairs: &[(u32, i64)], constant: i64) -> Result<Wide, Fail>
+    ensures { IfOk result (λ w. All (λ p. unsigned_abs p.1 ≤ 2 ^ 102) w.pairs × (unsigned_abs w.constant ≤ 2 ^ 102)) }
+{
     let narrow = row(alloc, pairs, constant)?;
     Ok(widen(alloc, &narrow)?)
 }

@@ -8,7 +8,7 @@ use Rattle.std.proofs.lemmas.List.Elements.{All-head, All-tail, All-cons, All-we
 use Rattle.cv_num.specs.declared.rows.Row.{Row}
 use Rattle.cv_num.specs.Pairs.{IsCanonical, coefficient_of}
 use Rattle.cv_num.specs.Coefficients.{same_canonical}
-use Rattle.cv_num.specs.Algebra.{with_pair, add_pair, add_pairs, times_pairs, number, variable, ◌⊕◌, ◌⊖◌, times, negative, substituted_pairs, substituted, image}
+use Rattle.cv_num.specs.Algebra.{with_pair, add_pair, add_pairs, times_pairs, number, variable, ◌⊕◌, ◌⊖◌, times, negative, substituted_pairs, substituted}
 
 abbrev Above : ℕ → List (ℕ × ℤ) → Type 0
 Above v ps = All (λ y. v < y.0) ps

@@ -1,17 +1,12 @@
 -- Lists of pairs by their coefficients: sums, multiples, and what coefficients settle.
-use Rattle.std.proofs.Common.{◌≡◌, ◌≢◌, ℕ, ◌<◌, ◌≤◌, ◌+◌, ℤ, pos, ◌+ℤ◌, ◌*ℤ◌, List, [], ◌∷◌, ◌++◌, Bool, true, false, refl, sym, ◌∙◌, ap, arith, nat_eq, zero, suc, eqb-true, eq-eqb, length, slice_index_or, unsigned_abs, subst, take, drop, slice_set, add-one, negsuc, ◌≤ℤ◌, ◌%◌, ◌*◌, ◌^◌, FitsSigned, to_z, of_z, if◌then◌else◌}
-use Rattle.std.specs.Int.{w64, w128, ◌∣◌, IsGcd, int_div_euclid}
-use Rattle.std.proofs.lemmas.Nat.Gcd.{dvd_trans, mod-eq-zero_of_dvd}
-use native.Mathlib.Nat.{mod-zero}
-use Rattle.std.proofs.lemmas.Int.{ints, to_z-of_z, unsigned_abs-mul}
-use Rattle.std.proofs.lemmas.Grind.{take_at_read}
-use Rattle.std.proofs.Math.Nat.{mul-le-mul}
+use Rattle.std.proofs.Common.{◌≡◌, ◌≢◌, ℕ, ◌<◌, ◌≤◌, ◌+◌, ℤ, pos, ◌+ℤ◌, ◌*ℤ◌, List, [], ◌∷◌, ◌++◌, Bool, true, false, refl, sym, ◌∙◌, ap, arith, nat_eq, zero, suc, eqb-true, eq-eqb, length, slice_index_or, unsigned_abs, subst, if◌then◌else◌}
+use Rattle.std.proofs.lemmas.Int.{ints}
 use Rattle.std.proofs.lemmas.Bool.{eqb-false}
-use Rattle.std.specs.List.{All, refill}
+use Rattle.std.specs.List.{All}
 use Rattle.std.proofs.lemmas.List.Elements.{All-head, All-tail, All-cons, All-append, All-weaker, All-nil}
-use Rattle.cv_num.specs.Pairs.{IsCanonical, coefficient_of, sum_at, scaled, IsGcdOf}
+use Rattle.cv_num.specs.Pairs.{IsCanonical, coefficient_of, sum_at, scaled}
 use Rattle.std.proofs.Math.IntN.{*ℤ-zero, zero-*ℤ}
-use Rattle.cv_num.specs.Whole.{*ℤ-+ℤ, +ℤ-*ℤ, *ℤ_assoc, floor_points}
+use Rattle.cv_num.specs.Whole.{*ℤ-+ℤ, +ℤ-*ℤ, *ℤ_assoc}
 
 pub coefficient_of-append : (xs ys : List (ℕ × ℤ)) (v : ℕ) → coefficient_of (xs ++ ys) v ≡ coefficient_of xs v +ℤ coefficient_of ys v
 coefficient_of-append [] ys v = omega (arith, ints)

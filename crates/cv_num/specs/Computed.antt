@@ -1,5 +1,5 @@
 -- What the operations give, by coefficients, is what the algebra computes.
-use Rattle.std.proofs.Common.{◌≡◌, ℕ, ℤ, ◌+ℤ◌, ◌*ℤ◌, List, [], ◌∷◌, sym, ap, ◌∙◌}
+use Rattle.std.proofs.Common.{◌≡◌, ℕ, ℤ, ◌+ℤ◌, List, sym, ap, ◌∙◌}
 use Rattle.cv_num.specs.declared.rows.Row.{Row}
 use Rattle.cv_num.specs.declared.rows.Wide.{Wide}
 use Rattle.cv_num.specs.Pairs.{IsCanonical, coefficient_of}

@@ -1,10 +1,14 @@
 //! Rows as a caller makes and changes them.
+ghost use Rattle.std.specs.Prelude.{◌≤◌, IfOk, length};
+
 use crate::{Assign, Row, RowError, Wide, add_scaled, gcd_reduce, row, subst, value, widen};
 use std::alloc::{AllocError, Global};
 use std::test::Fail;
 
 /// The row `coefficient * x0 + constant`.
-fn one(alloc: Global, coefficient: i64, constant: i64) -> Result<Row, RowError> {
+fn one(alloc: Global, coefficient: i64, constant: i64) -> Result<Row, RowError>
+    ensures { IfOk result (λ r. length r.pairs ≤ 1) }
+{
     if coefficient == 0 {
         row(alloc, &[], constant)
     } else {
@@ -16,7 +20,13 @@ fn one(alloc: Global, coefficient: i64, constant: i64) -> Result<Row, RowError> 
 fn parts_of(r: &Row) -> Option<(i64, i64)> {
     match r.pairs.as_slice() {
         [] => Some((0, r.constant)),
-        [(0, coefficient)] => Some((*coefficient, r.constant)),
+        [(variable, coefficient)] => {
+            if *variable == 0 {
+                Some((*coefficient, r.constant))
+            } else {
+                None
+            }
+        }
         _ => None,
     }
 }
@@ -135,7 +145,11 @@ fn reduced(alloc: Global, r: (i64, i64)) -> Result<Option<(i64, i64)>, Fail> {
 fn values_and_divisors(rt: HostRuntime) -> Result<(), Fail> {
     let values = [
         ((2, 3), 5, Some(13)),
-        ((i64::MIN, 3), 1099511627776, Some(3 - 10141204801825835211973625643008)),
+        (
+            (i64::MIN, 3),
+            1099511627776,
+            Some(3 - 10141204801825835211973625643008),
+        ),
         ((2, 3), i64::MAX, None),
         ((0, 3), i64::MAX, Some(3)),
     ];

@@ -1,7 +1,7 @@
-use Rattle.std.proofs.Common.{rules, arith, ◌≡◌, ◌<◌, ◌^◌, ◌+ℤ◌, ◌*ℤ◌, ◌<ℤ◌, ◌∙◌, sym, ap, subst, pos, ℕ, ℤ, FitsSigned, w64, to_z, of_z}
+use Rattle.std.proofs.Common.{rules, arith, ◌≡◌, ◌+ℤ◌, ◌*ℤ◌, ◌<ℤ◌, ◌∙◌, sym, ap, subst, ℤ, FitsSigned, w64}
 use Rattle.std.specs.Int.{w128}
-use Rattle.std.proofs.lemmas.Int.{ints, to_z-of_z}
-use Rattle.cv_farkas.proofs.Sweep.{IsSwept, NoneBelow, none_below, sweep_below, sweep_above, sweep_step, sweep_end, less_from, same_from}
+use Rattle.std.proofs.lemmas.Int.{to_z-of_z}
+use Rattle.cv_farkas.proofs.Sweep.{NoneBelow, none_below, sweep_below, sweep_above, sweep_step, sweep_end, less_from, same_from}
 use Rattle.cv_farkas.proofs.order.compare_combined.Goals as goal
 
 pub split_at-x-requires-clause-none_below : goal.split_at-x-requires-clause-none_below

@@ -1,5 +1,4 @@
-use Rattle.std.proofs.Common.{subst, sym, ◌≡◌, ◌≢◌, ℕ, ℤ, pos, negsuc, ◌+ℤ◌, ◌*ℤ◌, List, []}
-use Rattle.std.specs.declared.cmp.Ordering.TheVariants.{Equal}
+use Rattle.std.proofs.Common.{subst, ◌≡◌, ℕ, ℤ, pos, negsuc, ◌+ℤ◌, ◌*ℤ◌, List, []}
 use Rattle.cv_num.specs.Pairs.{coefficient_of}
 use Rattle.cv_farkas.specs.Order.{IsCompared}
 use Rattle.cv_farkas.proofs.OrderLemmas.{equal_rows, unequal_rows}

@@ -1,4 +1,4 @@
-use Rattle.std.proofs.Common.{arith, ◌<◌, ◌≤◌, ◌-◌, length, to_z, of_z}
+use Rattle.std.proofs.Common.{arith, ◌≤◌, ◌-◌, length, to_z, of_z}
 use Rattle.std.specs.Int.{w128}
 use Rattle.std.specs.declared.cmp.Ordering.TheVariants.{Less, Greater}
 use Rattle.cv_farkas.proofs.SearchLemmas.{reached_at, walk_up, walk_down}

@@ -6,5 +6,5 @@ use Rattle.cv_num.proofs.rows.widen.Given as goal
 abbrev pub invariant-loop-variable : goal.invariant-loop-variable
 invariant-loop-variable l = record {
   same : l.items.items ≡ take l.variable-index l.variable-items;
-  small : All (λ p. unsigned_abs p.1 ≤ 2 ^ 63) l.items.items;
+  small : All (λ p. unsigned_abs p.1 ≤ 2 ^ 102) l.items.items;
 }
