@@ -122,7 +122,8 @@ fn push_statement(out: &mut Vec<u8>, n: u64, rows: &[Row]) -> Result<(), AllocEr
     push_number(out, n)?;
     push_number(out, rows.len() as u64)?;
     out.push(b'\n')?;
-    push_rows(out, rows)
+    push_rows(out, rows)?;
+    Ok(())
 }
 
 /// Appends the lines of all statements.
@@ -175,7 +176,8 @@ fn push_case(out: &mut Vec<u8>, n: u64, case: &CertCase) -> Result<(), AllocErro
     push_statements(out, case.rows.as_slice())?;
     push_picks(out, case.picks.as_slice())?;
     push_count(out, b"steps", case.steps.len() as u64)?;
-    push_steps(out, case.steps.as_slice())
+    push_steps(out, case.steps.as_slice())?;
+    Ok(())
 }
 
 /// Appends the lines of all cases.
@@ -196,7 +198,8 @@ fn push_block(out: &mut Vec<u8>, block: &Block) -> Result<(), AllocError>
     out.extend_from_slice(block.name.as_slice())?;
     push_number(out, block.cases.len() as u64)?;
     out.push(b'\n')?;
-    push_cases(out, block.cases.as_slice())
+    push_cases(out, block.cases.as_slice())?;
+    Ok(())
 }
 
 /// Appends the lines of all blocks.
@@ -209,16 +212,23 @@ fn push_blocks(out: &mut Vec<u8>, blocks: &[Block]) -> Result<(), AllocError>
     Ok(())
 }
 
+/// The text of a certificate with these sets and blocks.
+fn text_with(alloc: Global, sets: &[List<u32>], blocks: &[Block]) -> Result<Vec<u8>, AllocError>
+    ensures { IfOk result (λ bytes. bytes.items ≡ text_of (record { sets = sets.now; blocks = blocks.now })) }
+{
+    let mut out = Vec::new(alloc);
+    out.extend_from_slice(b"cssv-cert 1\n")?;
+    push_count(&mut out, b"points", sets.len() as u64)?;
+    push_sets(&mut out, sets)?;
+    push_blocks(&mut out, blocks)?;
+    out.extend_from_slice(b"end\n")?;
+    Ok(out)
+}
+
 /// The one text of a certificate, which `read_cert` reads again; an error is want of memory.
 pub fn write_cert(alloc: Global, cert: &Cert) -> Result<Vec<u8>, AllocError>
     ensures text { IfOk result (λ bytes. bytes.items ≡ text_of cert.now) }
     ensures certificate { IsCertificate cert.now }
 {
-    let mut out = Vec::new(alloc);
-    out.extend_from_slice(b"cssv-cert 1\n")?;
-    push_count(&mut out, b"points", cert.sets.sets.len() as u64)?;
-    push_sets(&mut out, cert.sets.sets.as_slice())?;
-    push_blocks(&mut out, cert.blocks.as_slice())?;
-    out.extend_from_slice(b"end\n")?;
-    Ok(out)
+    text_with(alloc, cert.sets.sets.as_slice(), cert.blocks.as_slice())
 }
