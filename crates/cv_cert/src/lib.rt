@@ -15,5 +15,8 @@ mod write;
 
 pub use certificate::{Block, Cert, CertCase};
 pub use fault::CertError;
-pub use read::read_cert;
+pub use read::{one_text_law, read_cert};
 pub use write::write_cert;
+
+#[cfg(test)]
+mod tests;
