@@ -1,5 +1,5 @@
 -- The text that is written piece by piece is that of the lines.
-use Rattle.std.proofs.Common.{◌≡◌, ℕ, suc, ◌+◌, ℤ, List, [], ◌∷◌, ◌++◌, length, map, refl, sym, ap, ◌∙◌, append_assoc, codes, arith, add-one}
+use Rattle.std.proofs.Common.{◌≡◌, ℕ, suc, ◌+◌, ℤ, List, [], ◌∷◌, ◌++◌, length, map, refl, sym, ap, ◌∙◌, append_assoc, codes, arith}
 use Rattle.std.proofs.lemmas.List.{append-nil}
 use Rattle.std.specs.List.{flat_map, join_with_byte}
 use Rattle.std.specs.Fmt.{decimal, signed_decimal}
@@ -8,7 +8,7 @@ use Rattle.cv_farkas.specs.declared.steps.Step.{Step}
 use Rattle.cv_cert.specs.declared.certificate.Block.{Block}
 use Rattle.cv_cert.specs.declared.certificate.CertCase.{CertCase}
 use Rattle.cv_cert.specs.Certificate.{Certificate}
-use Rattle.cv_cert.specs.Text.{Line, line_text, text_of_lines, numbered, set_line, row_line, step_line, picks_line, steps_line, statement_lines, case_lines, block_lines, lines_of, text_of}
+use Rattle.cv_cert.specs.Text.{Line, line_text, text_of_lines, numbered, set_line, row_line, step_line, picks_line, steps_line, statement_lines, case_lines, block_lines, text_of}
 use Rattle.cv_cert.specs.Writing.{number_text, integer_text, numbers_text, pairs_text, parts_text, set_text, row_text, step_text, statement_text, case_text, block_text, numbered_text}
 use Rattle.cv_cert.proofs.Joined.{text_append}
 
@@ -56,19 +56,19 @@ unfolding row_text
 row_is r =
     let ps : Line = flat_map (λ p. decimal p.0 ∷ signed_decimal p.1 ∷ []) r.pairs in
     sym (line_is (codes "row") (signed_decimal r.constant ∷ ps)
-      ∙ ap (λ (u : List ℕ). codes "row" ++ u) (append_assoc (integer_text r.constant) (spaced ps) (10 ∷ []) ∙ ap (λ (u : List ℕ). integer_text r.constant ++ (u ++ 10 ∷ [])) (spaced_pairs r.pairs)))
+    ∙ ap (λ (u : List ℕ). codes "row" ++ u) (append_assoc (integer_text r.constant) (spaced ps) (10 ∷ []) ∙ ap (λ (u : List ℕ). integer_text r.constant ++ (u ++ 10 ∷ [])) (spaced_pairs r.pairs)))
 
 pub step_is : (s : Step) → codes "step" ++ (number_text s.d ++ (parts_text s.parts ++ 10 ∷ [])) ≡ step_text s
 unfolding step_text
 step_is s =
     let ps : Line = flat_map (λ p. decimal p.0 ∷ decimal p.1 ∷ []) s.parts in
     sym (line_is (codes "step") (decimal s.d ∷ ps)
-      ∙ ap (λ (u : List ℕ). codes "step" ++ u) (append_assoc (number_text s.d) (spaced ps) (10 ∷ []) ∙ ap (λ (u : List ℕ). number_text s.d ++ (u ++ 10 ∷ [])) (spaced_parts s.parts)))
+    ∙ ap (λ (u : List ℕ). codes "step" ++ u) (append_assoc (number_text s.d) (spaced ps) (10 ∷ []) ∙ ap (λ (u : List ℕ). number_text s.d ++ (u ++ 10 ∷ [])) (spaced_parts s.parts)))
 
 pub picks_is : (picks : List ℕ) → codes "picks" ++ (number_text (length picks) ++ (numbers_text picks ++ 10 ∷ [])) ≡ line_text (picks_line picks)
 picks_is picks =
     sym (line_is (codes "picks") (decimal (length picks) ∷ map decimal picks)
-      ∙ ap (λ (u : List ℕ). codes "picks" ++ u) (append_assoc (number_text (length picks)) (spaced (map decimal picks)) (10 ∷ []) ∙ ap (λ (u : List ℕ). number_text (length picks) ++ (u ++ 10 ∷ [])) (spaced_numbers picks)))
+    ∙ ap (λ (u : List ℕ). codes "picks" ++ u) (append_assoc (number_text (length picks)) (spaced (map decimal picks)) (10 ∷ []) ∙ ap (λ (u : List ℕ). number_text (length picks) ++ (u ++ 10 ∷ [])) (spaced_numbers picks)))
 
 -- ---- lists of lines
 
@@ -93,7 +93,7 @@ statement_is n rows =
     let body : List ℕ = flat_map row_text rows in
     let head : line_text (codes "at" ∷ decimal n ∷ decimal (length rows) ∷ []) ≡ codes "at" ++ (a ++ (b ++ 10 ∷ [])) = line_is (codes "at") (decimal n ∷ decimal (length rows) ∷ []) ∙ ap (λ (u : List ℕ). codes "at" ++ u) (sym (two_numbers n (length rows))) in
     let regroup : (codes "at" ++ (a ++ (b ++ 10 ∷ []))) ++ body ≡ codes "at" ++ (a ++ (b ++ (10 ∷ [] ++ body))) =
-        append_assoc (codes "at") (a ++ (b ++ 10 ∷ [])) body ∙ ap (λ (u : List ℕ). codes "at" ++ u) (append_assoc a (b ++ 10 ∷ []) body ∙ ap (λ (u : List ℕ). a ++ u) (append_assoc b (10 ∷ []) body)) in
+    append_assoc (codes "at") (a ++ (b ++ 10 ∷ [])) body ∙ ap (λ (u : List ℕ). codes "at" ++ u) (append_assoc a (b ++ 10 ∷ []) body ∙ ap (λ (u : List ℕ). a ++ u) (append_assoc b (10 ∷ []) body)) in
     sym regroup ∙ ap (λ (u : List ℕ). u ++ body) (sym head) ∙ ap (λ (u : List ℕ). line_text (codes "at" ∷ decimal n ∷ decimal (length rows) ∷ []) ++ u) (lines_map row_line rows)
 
 pub case_is : (n : ℕ) (c : CertCase) → line_text (codes "case" ∷ decimal n ∷ []) ++ (numbered_text statement_text 0 c.rows ++ (line_text (picks_line c.picks) ++ (line_text (codes "steps" ∷ decimal (length c.steps) ∷ []) ++ flat_map step_text c.steps))) ≡ case_text n c
@@ -110,9 +110,9 @@ block_is b =
     let num : List ℕ = number_text (length b.cases) in
     let body : List ℕ = numbered_text case_text 1 b.cases in
     let head : line_text (codes "proc" ∷ b.name ∷ decimal (length b.cases) ∷ []) ≡ codes "proc " ++ (b.name ++ (num ++ 10 ∷ [])) =
-        line_is (codes "proc") (b.name ∷ decimal (length b.cases) ∷ []) ∙ ap (λ (u : List ℕ). codes "proc " ++ u) (append_assoc b.name (num ++ []) (10 ∷ []) ∙ ap (λ (u : List ℕ). b.name ++ (u ++ 10 ∷ [])) (append-nil num)) in
+    line_is (codes "proc") (b.name ∷ decimal (length b.cases) ∷ []) ∙ ap (λ (u : List ℕ). codes "proc " ++ u) (append_assoc b.name (num ++ []) (10 ∷ []) ∙ ap (λ (u : List ℕ). b.name ++ (u ++ 10 ∷ [])) (append-nil num)) in
     let regroup : (codes "proc " ++ (b.name ++ (num ++ 10 ∷ []))) ++ body ≡ codes "proc " ++ (b.name ++ (num ++ (10 ∷ [] ++ body))) =
-        append_assoc (codes "proc ") (b.name ++ (num ++ 10 ∷ [])) body ∙ ap (λ (u : List ℕ). codes "proc " ++ u) (append_assoc b.name (num ++ 10 ∷ []) body ∙ ap (λ (u : List ℕ). b.name ++ u) (append_assoc num (10 ∷ []) body)) in
+    append_assoc (codes "proc ") (b.name ++ (num ++ 10 ∷ [])) body ∙ ap (λ (u : List ℕ). codes "proc " ++ u) (append_assoc b.name (num ++ 10 ∷ []) body ∙ ap (λ (u : List ℕ). b.name ++ u) (append_assoc num (10 ∷ []) body)) in
     sym regroup ∙ ap (λ (u : List ℕ). u ++ body) (sym head) ∙ ap (λ (u : List ℕ). line_text (codes "proc" ∷ b.name ∷ decimal (length b.cases) ∷ []) ++ u) (lines_numbered case_lines 1 b.cases)
 
 blocks_is : (bs : List Block) → flat_map block_text bs ≡ text_of_lines (flat_map block_lines bs)

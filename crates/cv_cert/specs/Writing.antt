@@ -5,7 +5,7 @@ use Rattle.cv_num.specs.declared.rows.Row.{Row}
 use Rattle.cv_farkas.specs.declared.steps.Step.{Step}
 use Rattle.cv_cert.specs.declared.certificate.Block.{Block}
 use Rattle.cv_cert.specs.declared.certificate.CertCase.{CertCase}
-use Rattle.cv_cert.specs.Text.{Line, text_of_lines, line_text, numbered, row_line, set_line, step_line, statement_lines, case_lines, block_lines}
+use Rattle.cv_cert.specs.Text.{text_of_lines, line_text, row_line, set_line, step_line, statement_lines, case_lines, block_lines}
 
 -- a space and a number
 abbrev pub number_text : ℕ → List ℕ

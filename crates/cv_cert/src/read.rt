@@ -60,5 +60,4 @@ pub fn read_cert(alloc: Global, text: &[u8]) -> Result<Cert, CertError>
 /// No two certificates have the same text.
 pub fn one_text_law()
     ensures { (a b : Certificate) → IsCertificate a → IsCertificate b → text_of a ≡ text_of b → a ≡ b }
-{
-}
+{}

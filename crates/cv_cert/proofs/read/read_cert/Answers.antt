@@ -1,4 +1,4 @@
-use Rattle.std.proofs.Common.{◌≡◌, refl, subst, sym, ◌∙◌}
+use Rattle.std.proofs.Common.{subst, sym, ◌∙◌}
 use Rattle.cv_cert.specs.declared.fault.ReadError.{ReadError}
 use Rattle.cv_cert.specs.Reading.{lines_in, all_by, FailsAll}
 use Rattle.cv_cert.specs.Lines.{certificate}

@@ -1,5 +1,5 @@
-use Rattle.std.proofs.Common.{◌≡◌, ◌++◌, [], ◌∷◌, List, ℕ, ap, sym, ◌∙◌, codes, length, decimal}
-use Rattle.cv_cert.specs.Writing.{number_text, integer_text, numbers_text, pairs_text, parts_text, set_text, row_text, step_text, statement_text, case_text, block_text, numbered_text}
+use Rattle.std.proofs.Common.{◌++◌, [], ◌∷◌, List, ℕ, ap, ◌∙◌, codes, length, decimal}
+use Rattle.cv_cert.specs.Writing.{step_text, statement_text, numbered_text}
 use Rattle.std.specs.List.{flat_map}
 use Rattle.cv_num.specs.declared.rows.Row.{Row}
 use Rattle.cv_farkas.specs.declared.steps.Step.{Step}
@@ -17,5 +17,5 @@ returns c =
     let count = c.in_ok-push_count-2.ensures ∙ ap (λ m. c.push_picks.new.out.items ++ line_text (codes "steps" ∷ decimal m ∷ [])) c.len.ensures in
     let steps = c.in_ok-push_steps.ensures ∙ ap (λ (xs : List Step). c.push_count-2.new.out.items ++ flat_map step_text xs) c.as_slice-3.ensures in
     five o (line_text (codes "case" ∷ decimal n ∷ [])) (numbered_text statement_text 0 it.rows) (line_text (picks_line it.picks)) (line_text (codes "steps" ∷ decimal (length it.steps) ∷ [])) (flat_map step_text it.steps)
-      c.push_count.new.out.items c.push_statements.new.out.items c.push_picks.new.out.items c.push_count-2.new.out.items c.push_steps.new.out.items c.in_ok-push_count.ensures statements picks count steps
+    c.push_count.new.out.items c.push_statements.new.out.items c.push_picks.new.out.items c.push_count-2.new.out.items c.push_steps.new.out.items c.in_ok-push_count.ensures statements picks count steps
     ∙ ap (λ (u : List ℕ). o ++ u) (case_is n it)

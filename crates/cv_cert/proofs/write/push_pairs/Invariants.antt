@@ -1,5 +1,4 @@
 use Rattle.std.proofs.Common.{◌≡◌, ◌++◌, drop}
-use Rattle.std.specs.List.{flat_map}
 use Rattle.cv_cert.specs.Writing.{pairs_text}
 use Rattle.cv_cert.proofs.write.push_pairs.Given as goal
 

@@ -1,5 +1,5 @@
-use Rattle.std.proofs.Common.{◌≡◌, ◌++◌, [], ◌∷◌, List, ℕ, ap, sym, ◌∙◌, codes, length, decimal}
-use Rattle.cv_cert.specs.Writing.{number_text, integer_text, numbers_text, pairs_text, parts_text, set_text, row_text, step_text, statement_text, case_text, block_text, numbered_text}
+use Rattle.std.proofs.Common.{◌++◌, [], ◌∷◌, List, ℕ, ap, ◌∙◌, codes}
+use Rattle.cv_cert.specs.Writing.{numbers_text}
 use Rattle.cv_cert.proofs.Written.{three, set_is}
 use Rattle.cv_cert.proofs.write.push_set.Goals as goal
 

@@ -1,4 +1,4 @@
-use Rattle.std.proofs.Common.{◌≡◌, ◌++◌, ◌+◌, drop}
+use Rattle.std.proofs.Common.{◌≡◌, ◌++◌, drop}
 use Rattle.cv_cert.specs.Writing.{statement_text, numbered_text}
 use Rattle.cv_cert.proofs.write.push_statements.Given as goal
 
