@@ -1,5 +1,5 @@
 -- No token of a certificate's text has a space or a newline.
-use Rattle.std.proofs.Common.{◌≡◌, ◌==◌, ℕ, zero, suc, ◌+◌, ◌<◌, ◌≤◌, ◌^◌, Bool, true, false, not, ◌&&◌, ◌||◌, eqb, List, [], ◌∷◌, ◌++◌, length, map, ℤ, pos, negsuc, refl, sym, ap, subst, ◌∙◌, arith, rules, codes, eqb-true, FitsSigned, IsTrue}
+use Rattle.std.proofs.Common.{◌≡◌, ◌==◌, ℕ, suc, ◌+◌, ◌<◌, ◌≤◌, ◌^◌, Bool, true, false, not, ◌&&◌, ◌||◌, List, [], ◌∷◌, ◌++◌, length, map, ℤ, pos, negsuc, refl, subst, arith, codes, FitsSigned}
 use Rattle.std.specs.Fmt.{decimal, signed_decimal}
 use Rattle.std.specs.Int.{w64}
 use Rattle.std.specs.List.{AllByRecursion, flat_map, list_all, list_any}
@@ -8,12 +8,12 @@ use Rattle.std.specs.Char.{is_ascii_digit}
 use Rattle.std.proofs.lemmas.Bool.Decides.{nat_tests}
 use Rattle.std.proofs.lemmas.Int.{ints}
 use Rattle.std.proofs.lemmas.Fmt.{digits_decimal}
-use Rattle.cv_core.specs.Grammar.{is_letter, is_digit, begins_name, is_name, IsName, reserved}
+use Rattle.cv_core.specs.Grammar.{is_letter, is_digit, begins_name, IsName, reserved}
 use Rattle.cv_num.specs.declared.rows.Row.{Row}
 use Rattle.cv_farkas.specs.declared.steps.Step.{Step}
 use Rattle.cv_cert.specs.declared.certificate.Block.{Block}
 use Rattle.cv_cert.specs.declared.certificate.CertCase.{CertCase}
-use Rattle.cv_cert.specs.Certificate.{Certificate, IsCertificate, IsNumber, IsSet, IsPair, IsRow, IsAfter, AreRows, IsStatement, IsStep, IsCase, IsBlock}
+use Rattle.cv_cert.specs.Certificate.{Certificate, IsCertificate, IsNumber, IsSet, IsPair, IsRow, AreRows, IsStatement, IsStep, IsCase, IsBlock}
 use Rattle.cv_cert.specs.Text.{Line, numbered, set_line, row_line, statement_lines, picks_line, step_line, steps_line, case_lines, block_lines, lines_of}
 use Rattle.cv_cert.proofs.Numbers.{own}
 
@@ -140,9 +140,10 @@ statements_clean n (rs ∷ rows) small h =
 
 case_clean : (n : ℕ) (c : CertCase) → IsNumber n → IsCase c → CleanLines (case_lines n c)
 case_clean n c h k =
-    let steps : CleanLines (steps_line (length c.steps) ∷ map step_line c.steps) = (word_first (codes "steps") (decimal (length c.steps) ∷ []) refl (count_clean (length c.steps) k.steps_listed), clean_map IsStep step_line step_clean c.steps k.steps) in
-    (word_first (codes "case") (decimal n ∷ []) refl (count_clean n h),
-     clean_append (numbered statement_lines 0 c.rows) (picks_line c.picks ∷ (steps_line (length c.steps) ∷ map step_line c.steps)) (statements_clean 0 c.rows (omega (arith, k.statements)) k.rows) (picks_clean c.picks k.picks_listed k.picks, steps))
+    let steps : CleanLines (steps_line (length c.steps) ∷ map step_line c.steps) = (word_first (codes "steps") (decimal (length c.steps) ∷ []) refl (count_clean (length c.steps) k.steps_listed), clean_map IsStep step_line step_clean c.steps k.steps) in (
+      word_first (codes "case") (decimal n ∷ []) refl (count_clean n h),
+      clean_append (numbered statement_lines 0 c.rows) (picks_line c.picks ∷ (steps_line (length c.steps) ∷ map step_line c.steps)) (statements_clean 0 c.rows (omega (arith, k.statements)) k.rows) (picks_clean c.picks k.picks_listed k.picks, steps),
+    )
 
 cases_clean : (n : ℕ) (cs : List CertCase) → n + length cs ≤ 2 ^ 32 → AllByRecursion IsCase cs → CleanLines (numbered case_lines n cs)
 cases_clean n [] small h = tt
@@ -158,6 +159,6 @@ blocks_clean (b ∷ bs) h = clean_append (block_lines b) (flat_map block_lines b
 pub certificate_clean : (c : Certificate) → IsCertificate c → CleanLines (lines_of c)
 certificate_clean c h =
     let rest : CleanLines (map set_line c.sets ++ (flat_map block_lines c.blocks ++ (codes "end" ∷ []) ∷ [])) =
-        clean_append (map set_line c.sets) (flat_map block_lines c.blocks ++ (codes "end" ∷ []) ∷ []) (clean_map IsSet set_line set_clean c.sets h.sets)
-          (clean_append (flat_map block_lines c.blocks) ((codes "end" ∷ []) ∷ []) (blocks_clean c.blocks h.blocks) (word_first (codes "end") [] refl refl, tt)) in
+    clean_append (map set_line c.sets) (flat_map block_lines c.blocks ++ (codes "end" ∷ []) ∷ []) (clean_map IsSet set_line set_clean c.sets h.sets)
+    (clean_append (flat_map block_lines c.blocks) ((codes "end" ∷ []) ∷ []) (blocks_clean c.blocks h.blocks) (word_first (codes "end") [] refl refl, tt)) in
     (word_first (codes "cssv-cert") (codes "1" ∷ []) refl refl, (word_first (codes "points") (decimal (length c.sets) ∷ []) refl (count_clean (length c.sets) h.sets_listed), rest))

@@ -1,16 +1,14 @@
 -- The lines of a text that is made of lines.
-use Rattle.std.proofs.Common.{◌≡◌, ◌≢◌, ◌==◌, ℕ, zero, suc, ◌+◌, ◌-◌, ◌<◌, ◌≤◌, Bool, true, false, not, ◌&&◌, cond, eqb, List, [], ◌∷◌, ◌++◌, length, take, drop, get_or, Option, Some, None, option_map, refl, sym, ap, subst, ◌∙◌, arith, rules, append_assoc, eqb-true, eq-eqb, ◌⊎◌, inl, inr, IsSomeAnd}
-use Rattle.std.proofs.lemmas.List.{append-nil}
-use Rattle.std.specs.List.{AllByRecursion, All, flat_map, list_all, slice_split, join_with_byte, position_or_len, before_first, after_first}
+use Rattle.std.proofs.Common.{◌≡◌, ◌==◌, ℕ, zero, suc, ◌+◌, ◌<◌, Bool, true, false, not, ◌&&◌, cond, List, [], ◌∷◌, ◌++◌, length, take, get_or, Option, Some, None, option_map, refl, sym, ap, ◌∙◌, arith, append_assoc, eqb-true, ◌⊎◌, inl, inr}
+use Rattle.std.specs.List.{AllByRecursion, All, list_all, join_with_byte, position_or_len, before_first, after_first}
 use Rattle.std.proofs.lemmas.List.Splits.{slice_split_at, slice_split_none, join_with_byte-slice_split}
 use Rattle.std.proofs.lemmas.List.Sums.{split_at_first, passes_at_first, fails_before_first}
 use Rattle.std.proofs.lemmas.Bool.{cases_lt}
-use Rattle.std.proofs.lemmas.Bool.Decides.{nat_tests}
 use Rattle.std.proofs.lemmas.Grind.{common_steps}
 use Rattle.cv_cert.specs.Text.{Line, line_text, text_of_lines}
 use Rattle.cv_cert.specs.Wrong.{first_lines}
 use Rattle.cv_cert.specs.Reading.{tokens_of, whole_lines, lines_in, unfinished}
-use Rattle.cv_cert.proofs.Splits.{line_first, no_line, split_is_some}
+use Rattle.cv_cert.proofs.Splits.{no_line, split_is_some}
 use Rattle.cv_cert.proofs.Clean.{clean_byte, clean, CleanLine, CleanLines}
 
 abbrev space : ℕ → Bool
@@ -108,12 +106,14 @@ pub record FirstLine (text line rest : List ℕ) : Type 0 where
 has_line : (text : List ℕ) → position_or_len newline text < length text → (line : List ℕ) × (rest : List ℕ) × FirstLine text line rest
 has_line text lt =
     let e = position_or_len newline text in
-    let at : get_or text e 0 ≡ 10 = eqb-true (get_or text e 0) 10 (passes_at_first newline text 0 lt) in
-    (before_first newline text, after_first newline text,
-     record {
-       parts = split_at_first newline text 0 lt ∙ ap (λ b. before_first newline text ++ (b ∷ after_first newline text)) at;
-       plain = all_without newline (before_first newline text) (λ k d k_lt. before k d k_lt);
-     })
+    let at : get_or text e 0 ≡ 10 = eqb-true (get_or text e 0) 10 (passes_at_first newline text 0 lt) in (
+      before_first newline text,
+      after_first newline text,
+      record {
+        parts = split_at_first newline text 0 lt ∙ ap (λ b. before_first newline text ++ (b ∷ after_first newline text)) at;
+        plain = all_without newline (before_first newline text) (λ k d k_lt. before k d k_lt);
+      },
+    )
   where
     before : (k : ℕ) (d : ℕ) → k < length (before_first newline text) → newline (get_or (before_first newline text) k d) ≡ false
     before k d k_lt =
@@ -123,15 +123,15 @@ has_line text lt =
 
 pub line_or_none : (text : List ℕ) → ((line : List ℕ) × (rest : List ℕ) × FirstLine text line rest) ⊎ (Without newline text × (lines_in text ≡ unfinished text))
 line_or_none text = elim (cases_lt (position_or_len newline text) (length text)) [
-    | inl lt ↦ inl (has_line text lt)
-    | inr ge ↦ inr (all_without newline text (λ k d lt. fails_before_first newline text k d (omega arith)), no_line text ge)
-  ]
+  | inl lt ↦ inl (has_line text lt)
+  | inr ge ↦ inr (all_without newline text (λ k d lt. fails_before_first newline text k d (omega arith)), no_line text ge)
+]
 
 pub nothing_left : (text : List ℕ) → lines_in text ≡ [] → text ≡ []
 nothing_left text e = elim (line_or_none text) [
-    | inl w ↦ (let f = w.2 in let k : lines_in text ≡ tokens_of w.0 ∷ lines_in w.1 = ap lines_in f.parts ∙ line_then w.0 w.1 f.plain in absurd cc)
-    | inr n ↦ empty text (sym n.1 ∙ e)
-  ]
+  | inl w ↦ (let f = w.2 in let k : lines_in text ≡ tokens_of w.0 ∷ lines_in w.1 = ap lines_in f.parts ∙ line_then w.0 w.1 f.plain in absurd cc)
+  | inr n ↦ empty text (sym n.1 ∙ e)
+]
   where
     empty : (text : List ℕ) → unfinished text ≡ [] → text ≡ []
     empty [] k = refl
@@ -147,13 +147,13 @@ some_left text lt = by_lines (lines_in text) refl
 -- a text whose first line has tokens
 pub opens : (text : List ℕ) (t : Line) (ts : List Line) → 0 < length t → lines_in text ≡ t ∷ ts → (rest : List ℕ) × (text ≡ line_text t ++ rest) × (lines_in rest ≡ ts)
 opens text t ts some e = elim (line_or_none text) [
-    | inl w ↦ (let f = w.2 in
-        let k : lines_in text ≡ tokens_of w.0 ∷ lines_in w.1 = ap lines_in f.parts ∙ line_then w.0 w.1 f.plain in
-        let same : tokens_of w.0 ≡ t = cc in
-        let joined : w.0 ≡ join_with_byte 32 t = sym (join_with_byte-slice_split 32 w.0) ∙ ap (join_with_byte 32) same in
-        (w.1, f.parts ∙ ap (λ (l : List ℕ). l ++ (10 ∷ w.1)) joined ∙ sym (append_assoc (join_with_byte 32 t) (10 ∷ []) w.1), (let m : lines_in w.1 ≡ ts = cc in m)))
-    | inr n ↦ absurd (none text (sym n.1 ∙ e))
-  ]
+  | inl w ↦ (let f = w.2 in
+      let k : lines_in text ≡ tokens_of w.0 ∷ lines_in w.1 = ap lines_in f.parts ∙ line_then w.0 w.1 f.plain in
+      let same : tokens_of w.0 ≡ t = cc in
+      let joined : w.0 ≡ join_with_byte 32 t = sym (join_with_byte-slice_split 32 w.0) ∙ ap (join_with_byte 32) same in
+      (w.1, f.parts ∙ ap (λ (l : List ℕ). l ++ (10 ∷ w.1)) joined ∙ sym (append_assoc (join_with_byte 32 t) (10 ∷ []) w.1), (let m : lines_in w.1 ≡ ts = cc in m)))
+  | inr n ↦ absurd (none text (sym n.1 ∙ e))
+]
   where
     none : (text : List ℕ) → unfinished text ≡ t ∷ ts → ⊥
     none [] k = absurd cc

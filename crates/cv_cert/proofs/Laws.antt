@@ -1,6 +1,6 @@
 -- What each way of reading keeps: what is taken is spelled so, what is spelled so is taken whatever follows,
 -- and where reading stops, what was taken can go on, and the next line alone decides that it stops.
-use Rattle.std.proofs.Common.{◌≡◌, ℕ, zero, suc, ◌+◌, ◌<◌, ◌≤◌, List, [], ◌∷◌, ◌++◌, length, Option, Some, None, Result, Ok, Err, refl, sym, ap, subst, ◌∙◌, append_assoc, arith, ◌⊎◌, inl, inr}
+use Rattle.std.proofs.Common.{◌≡◌, ℕ, zero, suc, ◌+◌, ◌<◌, List, [], ◌∷◌, ◌++◌, length, Option, Some, None, Ok, Err, refl, sym, ap, subst, ◌∙◌, append_assoc, arith, ◌⊎◌, inl, inr}
 use Rattle.std.proofs.lemmas.List.{append-nil, length-append}
 use Rattle.cv_cert.specs.Text.{Line}
 use Rattle.cv_cert.specs.Reading.{Outcome, Reading, and_then, ◌>>=◌, give, taken, one_line, each, more, many_in, many, left_of, ended_after, all_by}
@@ -101,9 +101,11 @@ reads_line {A} f t a h = record {
     nothing : (other : Lines) → first other ≡ None → one_line f other ≡ Err other
     nothing [] k = refl
     nothing (u ∷ us) k = absurd cc
+
     takes_of : (ts : Lines) (b : A) (rest : Lines) → one_line f ts ≡ Ok (b, rest) → Takes (OneLine f) ts b rest
     takes_of [] b rest e = absurd cc
     takes_of (u ∷ us) b rest e = line_takes f u us b rest (f u) refl e
+
     stops_of : (ts at : Lines) → one_line f ts ≡ Err at → Stops (one_line f) (OneLine f) ts at
     stops_of [] at e = record { front = []; parts = cc; decides = λ other k. nothing other (k ∙ ap first (let q : at ≡ [] = cc in q)); viable = (a, t ∷ [], (t, h, refl)) }
     stops_of (u ∷ us) at e = line_stops f u us at (f u) (a, t ∷ [], (t, h, refl)) refl e
@@ -130,10 +132,12 @@ reads_bind {A} {B} {r} {f} {p} {q} one_by then_by = record {
         let x = one_by.takes ts m.0 m.1 m.2 in
         let y = (then_by m.0 x.front x.fits).takes m.1 b rest m.3 in
         record { front = x.front ++ y.front; fits = (m.0, x.front, y.front, x.fits, y.fits, refl); parts = x.parts ∙ ap (λ (u : Lines). x.front ++ u) y.parts ∙ sym (append_assoc x.front y.front rest) }
+
     again_of : (b : B) (text rest : Lines) → Then p q b text → (r >>= f) (text ++ rest) ≡ Ok (b, rest)
     again_of b text rest h =
         let parts : text ++ rest ≡ h.1 ++ (h.2 ++ rest) = ap (λ (u : Lines). u ++ rest) h.5 ∙ append_assoc h.1 h.2 rest in
         ap (r >>= f) parts ∙ goes_through r f (h.1 ++ (h.2 ++ rest)) h.0 (h.2 ++ rest) (Ok (b, rest)) (one_by.again h.0 h.1 (h.2 ++ rest) h.3) ((then_by h.0 h.1 h.3).again b h.2 rest h.4)
+
     stops_of : (ts at : Lines) → (r ts ≡ Err at) ⊎ ((a : A) × (mid : Lines) × (r ts ≡ Ok (a, mid)) × (f a mid ≡ Err at)) → Stops (r >>= f) (Then p q) ts at
     stops_of ts at (inl e) =
         let s = one_by.stops ts at e in
@@ -196,6 +200,7 @@ module _ {A S : Type 0} {item : ℕ → S → Reading A} {next : S → A → S} 
       none : (xs : List A) (text : Lines) → Given [] xs text → Each p next zero s xs text
       none [] text h = h.1
       none (x ∷ xs) text h = let e = h.0 in absurd cc
+
       some : (xs : List A) (text : Lines) → Each p next zero s xs text → Given [] xs text
       some [] text h = (refl, h)
       some (x ∷ xs) text h = absurd h
@@ -341,9 +346,9 @@ module _ {A E S : Type 0} (next : S → A → S) {item : S → Reading (A ⊎ E)
     items_stop : (n : ℕ) (s : S) (ts at : Lines) → length ts < n → many item next s ts ≡ Err at → Stops (many item next s) (Many p next s) ts at
     items_stop zero s ts at lt e = absurd (omega arith)
     items_stop (suc n) s ts at lt e = elim (bind_err (item s ts) (more (rest_of s)) at (sym (many_opens s ts) ∙ e)) [
-        | inl h ↦ stops_at_item s ts at ((by s).stops ts at h)
-        | inr m ↦ by_item (λ t mid k. items_stop n t mid at k) m.0 m.1 m.2 m.3
-      ]
+      | inl h ↦ stops_at_item s ts at ((by s).stops ts at h)
+      | inr m ↦ by_item (λ t mid k. items_stop n t mid at k) m.0 m.1 m.2 m.3
+    ]
       where
         later : ((t : S) (mid : Lines) → length mid < n → many item next t mid ≡ Err at → Stops (many item next t) (Many p next t) mid at) → (a : A) (mid : Lines) → item s ts ≡ Ok (inl a, mid) → many item next (next s a) mid ≡ Err at → Stops (many item next s) (Many p next s) ts at
         later go a mid e1 e3 =
@@ -357,12 +362,13 @@ module _ {A E S : Type 0} (next : S → A → S) {item : S → Reading (A ⊎ E)
               decides = λ other k. ap (many item next s) (append_assoc x.front stop.front other) ∙ many_opens s (x.front ++ (stop.front ++ other)) ∙ goes_through (item s) (more (rest_of s)) (x.front ++ (stop.front ++ other)) (inl a) (stop.front ++ other) (Err other) ((by s).again (inl a) x.front (stop.front ++ other) x.fits) (ap (onto_one a) (stop.decides other k));
               viable = ((a ∷ (v.0).0, (v.0).1), v.1, (x.front, stop.front ++ v.1, x.fits, v.2, append_assoc x.front stop.front v.1));
             }
+
         by_item : ((t : S) (mid : Lines) → length mid < n → many item next t mid ≡ Err at → Stops (many item next t) (Many p next t) mid at) → (o : A ⊎ E) (mid : Lines) → item s ts ≡ Ok (o, mid) → more (rest_of s) o mid ≡ Err at → Stops (many item next s) (Many p next s) ts at
         by_item go (inr x) mid e1 e2 = absurd cc
         by_item go (inl a) mid e1 e2 = elim (bind_err (rest_of s a mid) (λ others. give (a ∷ others.0, others.1)) at e2) [
-            | inl e3 ↦ later go a mid e1 e3
-            | inr m ↦ (let h = m.3 in absurd cc)
-          ]
+          | inl e3 ↦ later go a mid e1 e3
+          | inr m ↦ (let h = m.3 in absurd cc)
+        ]
 
     pub reads_many : (s : S) → Reads (many item next s) (Many p next s)
     reads_many s = record {

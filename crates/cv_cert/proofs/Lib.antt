@@ -11,3 +11,4 @@ pub mod ManyLoops
 pub mod Clean
 pub mod Joined
 pub mod WholeText
+pub mod Written

@@ -1,5 +1,5 @@
 -- What each kind of line is read as: just the value that it spells, and just from the line that spells it.
-use Rattle.std.proofs.Common.{◌≡◌, ◌≢◌, ◌==◌, ℕ, zero, suc, ◌+◌, ◌<◌, ◌≤◌, ◌^◌, Bool, true, false, ◌&&◌, ◌||◌, cond, nat_lt, eqb, List, [], ◌∷◌, ◌++◌, length, map, Option, Some, None, option_map, option_and_then, ℤ, pos, negsuc, refl, sym, ap, subst, ◌∙◌, arith, rules, IsTrue, FitsSigned, codes, eqb-true, eq-eqb, ◌⊎◌, inl, inr}
+use Rattle.std.proofs.Common.{◌≡◌, ◌==◌, ℕ, suc, ◌<◌, ◌≤◌, Bool, true, false, ◌&&◌, cond, nat_lt, List, [], ◌∷◌, length, map, Option, Some, None, option_map, option_and_then, ℤ, refl, ap, subst, ◌∙◌, arith, FitsSigned, codes, eqb-true, eq-eqb}
 use Rattle.std.specs.Fmt.{decimal, signed_decimal}
 use Rattle.std.specs.Int.{w64}
 use Rattle.std.specs.List.{AllByRecursion, flat_map}
@@ -13,7 +13,7 @@ use Rattle.cv_farkas.specs.declared.steps.Step.{Step}
 use Rattle.cv_cert.specs.Certificate.{IsNumber, Ascends, IsSet, IsPair, IsRow, IsAfter, IsStep}
 use Rattle.cv_cert.specs.Text.{Line, set_line, row_line, picks_line, step_line}
 use Rattle.cv_cert.specs.Tokens.{number_of, integer_of, both, numbers_of, ascending_from, pairs_by, is_canonical, has_room, is_after}
-use Rattle.cv_cert.specs.Lines.{or_else, tail_of, ends, if_true, tail_behind, is_header, is_end, only_number, count_of, is_number, is_case, set_of, rows_after, at_of, counted, counted_numbers, picks_of, made_row, if_canonical, row_after, row_of, fitting, next_row_of, made_step, step_after, step_of, named, block_of, statement_of, heading_of}
+use Rattle.cv_cert.specs.Lines.{tail_of, ends, if_true, tail_behind, is_header, is_end, only_number, count_of, is_number, is_case, set_of, rows_after, at_of, counted, counted_numbers, picks_of, made_row, if_canonical, row_after, row_of, fitting, next_row_of, made_step, step_after, step_of, named, block_of}
 use Rattle.cv_cert.proofs.Numbers.{number_takes, number_again, integer_takes, integer_again}
 use Rattle.cv_cert.proofs.RowOrder.{canonical_is, is_canonical_of}
 
@@ -221,8 +221,8 @@ module _ {B : Type 0} (f : List ℕ → Option B) (text : B → List ℕ) (Fits 
   pairs_again (p ∷ ps) h =
       let first = h.0 in
       both_of (λ q qs. q ∷ qs) (both (λ n b. (n, b)) (number_of (decimal p.0)) (f (text p.1))) (pairs_by f (flat_map pair_tokens ps)) p ps
-        (both_of (λ n b. (n, b)) (number_of (decimal p.0)) (f (text p.1)) p.0 p.1 (number_again p.0 first.0) (f_again p.1 first.1))
-        (pairs_again ps h.1)
+      (both_of (λ n b. (n, b)) (number_of (decimal p.0)) (f (text p.1)) p.0 p.1 (number_again p.0 first.0) (f_again p.1 first.1))
+      (pairs_again ps h.1)
 
 abbrev FitsI64 : ℤ → Type 0
 FitsI64 z = FitsSigned w64 z
@@ -242,13 +242,14 @@ row_after_takes (t ∷ ts) r e = canonical (both made_row (integer_of t) (pairs_
         let ps = pairs_takes integer_of signed_decimal FitsI64 integer_takes integer_again ts k.1 k.3 in
         let pairs_is : k.1 ≡ r.pairs = ap (λ (y : Row). y.pairs) (k.4 ∙ c.1) in
         let constant_is : k.0 ≡ r.constant = ap (λ (y : Row). y.constant) (k.4 ∙ c.1) in
-        let line : t ∷ ts ≡ signed_decimal k.0 ∷ flat_map (λ p. decimal p.0 ∷ signed_decimal p.1 ∷ []) k.1 = cc (z.0, ps.0) in
-        (line ∙ ap (λ (y : ℤ). signed_decimal y ∷ flat_map (λ p. decimal p.0 ∷ signed_decimal p.1 ∷ []) k.1) constant_is ∙ ap (λ (qs : List (ℕ × ℤ)). signed_decimal r.constant ∷ flat_map (λ p. decimal p.0 ∷ signed_decimal p.1 ∷ []) qs) pairs_is,
-         record {
-           constant = subst FitsI64 constant_is z.1;
-           canonical = subst (λ (y : Row). IsCanonical y.pairs) c.1 (canonical_is x.pairs c.0);
-           pairs = subst (AllByRecursion IsPair) pairs_is ps.1;
-         })
+        let line : t ∷ ts ≡ signed_decimal k.0 ∷ flat_map (λ p. decimal p.0 ∷ signed_decimal p.1 ∷ []) k.1 = cc (z.0, ps.0) in (
+          line ∙ ap (λ (y : ℤ). signed_decimal y ∷ flat_map (λ p. decimal p.0 ∷ signed_decimal p.1 ∷ []) k.1) constant_is ∙ ap (λ (qs : List (ℕ × ℤ)). signed_decimal r.constant ∷ flat_map (λ p. decimal p.0 ∷ signed_decimal p.1 ∷ []) qs) pairs_is,
+          record {
+            constant = subst FitsI64 constant_is z.1;
+            canonical = subst (λ (y : Row). IsCanonical y.pairs) c.1 (canonical_is x.pairs c.0);
+            pairs = subst (AllByRecursion IsPair) pairs_is ps.1;
+          },
+        )
 
 pub row_takes : (line : Line) (r : Row) → row_of line ≡ Some r → (line ≡ row_line r) × IsRow r
 unfolding row_of

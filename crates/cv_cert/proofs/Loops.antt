@@ -1,18 +1,15 @@
 -- What the functions over all lines answer at a line that is none, and what their loops keep.
-use Rattle.std.proofs.Common.{◌≡◌, ℕ, zero, suc, ◌+◌, List, [], ◌∷◌, ◌++◌, length, Option, Some, None, Result, Ok, Err, refl, sym, ap, subst, ◌∙◌, arith, ◌⊎◌, inl, inr}
+use Rattle.std.proofs.Common.{◌≡◌, ℕ, suc, List, [], ◌∷◌, ◌++◌, length, Option, Some, None, Ok, Err, refl, sym, ap, subst, ◌∙◌, arith}
 use Rattle.std.proofs.lemmas.List.{length_push}
 use Rattle.cv_num.specs.declared.rows.Row.{Row}
 use Rattle.cv_farkas.specs.declared.steps.Step.{Step}
-use Rattle.cv_cert.specs.declared.certificate.Block.{Block}
 use Rattle.cv_cert.specs.declared.certificate.CertCase.{CertCase}
 use Rattle.cv_cert.specs.declared.fault.ReadError.{ReadError}
 use Rattle.cv_cert.specs.declared.fault.ReadError.TheVariants as errors
 use Rattle.cv_cert.specs.Text.{Line}
-use Rattle.cv_cert.specs.Reading.{Outcome, Reading, and_then, ◌>>=◌, give, one_line, each, Fails, left_of, lines_in, unfinished}
-use Rattle.cv_cert.specs.Lines.{next_row_of, step_of, set_of, a_case, rows, step_lines, set_lines, cases}
-use Rattle.cv_cert.specs.Views.{last_row}
+use Rattle.cv_cert.specs.Reading.{Outcome, Reading, one_line, each, Fails, left_of, lines_in, unfinished}
+use Rattle.cv_cert.specs.Lines.{next_row_of, step_of, set_of, a_case}
 use Rattle.cv_cert.proofs.Laws.{Lines, onto, each_goes, each_ends, each_fails}
-use Rattle.cv_cert.proofs.RowOrder.{last_push}
 
 -- where there is no whole line, none is read
 pub no_line_fails : {A : Type 0} (f : Line → Option A) (text : List ℕ) (e : ReadError) → f [] ≡ None → lines_in text ≡ unfinished text → e ≡ errors.Fault (length (lines_in text)) → Fails e (one_line f (lines_in text))

@@ -1,11 +1,11 @@
 -- What the loops over the statements of a case, and over the blocks, keep.
-use Rattle.std.proofs.Common.{◌≡◌, ℕ, suc, ◌+◌, ◌<◌, List, [], ◌∷◌, ◌++◌, length, Option, Some, None, Result, Ok, Err, refl, sym, ap, ◌∙◌, arith, ◌⊎◌, inl, inr}
+use Rattle.std.proofs.Common.{◌≡◌, ℕ, suc, ◌<◌, List, [], ◌∷◌, ◌++◌, length, Ok, Err, refl, sym, ap, ◌∙◌, arith, ◌⊎◌, inl, inr}
 use Rattle.std.proofs.lemmas.List.{length_push}
 use Rattle.cv_num.specs.declared.rows.Row.{Row}
 use Rattle.cv_cert.specs.declared.certificate.Block.{Block}
 use Rattle.cv_cert.specs.declared.fault.ReadError.{ReadError}
 use Rattle.cv_cert.specs.declared.fault.ReadError.TheVariants as errors
-use Rattle.cv_cert.specs.Reading.{Outcome, and_then, give, many, Fails, left_of}
+use Rattle.cv_cert.specs.Reading.{Outcome, many, Fails, left_of}
 use Rattle.cv_cert.specs.Lines.{statement, block}
 use Rattle.cv_cert.proofs.Laws.{Lines, onto_many, many_goes, many_ends, many_fails, shrinks}
 use Rattle.cv_cert.proofs.Phrases.{statement_next, reads_statement, statement_is_long, block_next, reads_block, block_is_long}

@@ -1,5 +1,5 @@
 -- The numbers that tokens spell.
-use Rattle.std.proofs.Common.{◌≡◌, ◌≢◌, ◌==◌, ℕ, zero, suc, ◌+◌, ◌-◌, ◌*◌, ◌/◌, ◌<◌, ◌≤◌, ◌^◌, Bool, true, false, ◌&&◌, not, cond, nat_le, ltb, leb, eqb, List, [], ◌∷◌, length, get_or, Option, Some, None, option_map, ℤ, pos, negsuc, refl, sym, ap, subst, ◌∙◌, arith, rules, FitsSigned, eqb-true, eq-eqb, lit<}
+use Rattle.std.proofs.Common.{◌≡◌, ◌≢◌, ℕ, zero, suc, ◌+◌, ◌-◌, ◌*◌, ◌/◌, ◌<◌, ◌≤◌, ◌^◌, Bool, true, false, ◌&&◌, cond, nat_le, eqb, List, [], ◌∷◌, length, get_or, Option, Some, None, option_map, ℤ, pos, negsuc, refl, sym, ap, subst, ◌∙◌, arith, rules, FitsSigned, eqb-true, lit<}
 use Rattle.std.proofs.lemmas.Bool.Decides.{nat_tests}
 use Rattle.std.proofs.lemmas.Fmt.{digits_decimal, digits_value-decimal, decimal-digits_value, decimal_nonempty, first_decimal, decimal_digit}
 use Rattle.std.proofs.lemmas.Str.Parse.{IsNumeralModel, numerals_by_fold}
@@ -65,6 +65,7 @@ natural_again most n h small =
     no_zero [] h k = absurd (omega arith)
     no_zero (c ∷ []) h k = refl
     no_zero (c ∷ (d ∷ ds)) h k = let ne : c ≢ 48 = λ e. (let m : suc (suc (length ds)) ≡ 1 = k e in omega arith) in grind (arith, nat_tests)
+
     one_zero : (n : ℕ) → n < 2 ^ 64 → get_or (decimal n) 0 0 ≡ 48 → length (decimal n) ≡ 1
     one_zero zero s e = ap length (decimal_digit 0 (omega arith))
     one_zero (suc n) s e = absurd (omega (arith, first_decimal (suc n) (omega arith) s))
@@ -77,9 +78,11 @@ natural_takes most token n small h = chosen (no_leading_zero token) (all_ascii_d
     first_zero [] a e = absurd cc
     first_zero (c ∷ []) a e = refl
     first_zero (c ∷ (d ∷ ds)) a e = absurd (grind (arith, nat_tests))
+
     some_byte : (ds : List ℕ) → no_leading_zero ds ≡ true → 0 < length ds
     some_byte [] a = absurd cc
     some_byte (c ∷ cs) a = omega arith
+
     chosen : (a d b : Bool) → no_leading_zero token ≡ a → all_ascii_digits token ≡ d → nat_le (digits_after 0 token) most ≡ b → cond (a && (d && b)) (Some (digits_after 0 token)) None ≡ Some n → (token ≡ decimal n) × (n ≤ most)
     chosen false d b p q r e = absurd cc
     chosen true false b p q r e = absurd cc
@@ -116,6 +119,7 @@ integer_again (pos n) h = plain (decimal n) (no_minus n (omega (arith, ints))) (
     no_minus : (n : ℕ) → n < 2 ^ 64 → 48 ≤ get_or (decimal n) 0 0
     no_minus zero s = omega (arith, ap (λ (ds : List ℕ). get_or ds 0 0) (decimal_digit 0 (omega arith)))
     no_minus (suc n) s = omega (arith, first_decimal (suc n) (omega arith) s)
+
     plain : (ds : List ℕ) → 48 ≤ get_or ds 0 0 → natural_of 9223372036854775807 ds ≡ Some n → integer_of ds ≡ Some (pos n)
     plain [] h e = absurd (omega arith)
     plain (c ∷ cs) h e = let k : eqb c 45 ≡ false = grind (arith, nat_tests) in rw (k, e) refl
@@ -135,6 +139,7 @@ integer_takes (c ∷ cs) z h = chosen (eqb c 45) refl h
         let same : c ∷ cs ≡ 45 ∷ decimal (suc n) = cc (k, t.0) in
         let fits : FitsSigned w64 (negsuc n) = grind (arith, ints, t.1) in
         subst (λ (y : ℤ). (c ∷ cs ≡ signed_decimal y) × FitsSigned w64 y) is (same, fits)
+
     plain : (o : Option ℕ) → natural_of 9223372036854775807 (c ∷ cs) ≡ o → option_map (λ n. pos n) o ≡ Some z → (c ∷ cs ≡ signed_decimal z) × FitsSigned w64 z
     plain None e m = absurd cc
     plain (Some n) e m =
@@ -142,6 +147,7 @@ integer_takes (c ∷ cs) z h = chosen (eqb c 45) refl h
         let is : pos n ≡ z = cc in
         let fits : FitsSigned w64 (pos n) = grind (arith, ints, t.1) in
         subst (λ (y : ℤ). (c ∷ cs ≡ signed_decimal y) × FitsSigned w64 y) is (t.0, fits)
+
     chosen : (b : Bool) → eqb c 45 ≡ b → cond b (negative_of (natural_of 9223372036854775808 cs)) (option_map (λ n. pos n) (natural_of 9223372036854775807 (c ∷ cs))) ≡ Some z → (c ∷ cs ≡ signed_decimal z) × FitsSigned w64 z
     chosen true e m = minus (natural_of 9223372036854775808 cs) refl (eqb-true c 45 e) m
     chosen false e m = plain (natural_of 9223372036854775807 (c ∷ cs)) refl m

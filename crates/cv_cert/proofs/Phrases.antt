@@ -1,5 +1,5 @@
 -- The readings of all lines: just the values that they spell.
-use Rattle.std.proofs.Common.{◌≡◌, ℕ, zero, suc, ◌+◌, ◌<◌, ◌≤◌, ◌^◌, Bool, true, false, List, [], ◌∷◌, ◌++◌, length, map, Option, Some, None, option_map, refl, sym, ap, subst, ◌∙◌, arith, ◌⊎◌, inl, inr, codes, append_assoc, lit<, lit≤}
+use Rattle.std.proofs.Common.{◌≡◌, ℕ, zero, suc, ◌+◌, ◌<◌, ◌≤◌, ◌^◌, Bool, true, false, List, [], ◌∷◌, ◌++◌, length, map, Option, Some, None, option_map, refl, sym, ap, subst, ◌∙◌, arith, ◌⊎◌, inl, inr, codes, append_assoc, lit<}
 use Rattle.std.proofs.lemmas.List.{append-nil}
 use Rattle.std.specs.Fmt.{decimal}
 use Rattle.std.specs.List.{AllByRecursion, flat_map}
@@ -8,13 +8,13 @@ use Rattle.cv_num.specs.declared.rows.Row.{Row}
 use Rattle.cv_farkas.specs.declared.steps.Step.{Step}
 use Rattle.cv_cert.specs.declared.certificate.Block.{Block}
 use Rattle.cv_cert.specs.declared.certificate.CertCase.{CertCase}
-use Rattle.cv_cert.specs.Certificate.{Certificate, IsCertificate, IsNumber, IsSet, IsRow, IsAfter, AreRows, IsStatement, IsStep, IsCase, IsBlock}
+use Rattle.cv_cert.specs.Certificate.{Certificate, IsCertificate, IsNumber, IsSet, IsRow, AreRows, IsStatement, IsStep, IsCase, IsBlock}
 use Rattle.cv_cert.specs.Text.{Line, numbered, set_line, row_line, statement_lines, picks_line, step_line, steps_line, case_lines, block_lines, lines_of}
 use Rattle.cv_cert.specs.Tokens.{has_room}
-use Rattle.cv_cert.specs.Reading.{Reading, Outcome, and_then, ◌>>=◌, give, one_line, each, many}
+use Rattle.cv_cert.specs.Reading.{Reading, one_line, each}
 use Rattle.cv_cert.specs.Lines as spec
 use Rattle.cv_cert.specs.Lines.{next_row_of, step_of, set_of, count_of, is_case, is_header, if_true, at_of, block_of, picks_of, statement_of, heading_of, is_end, or_else}
-use Rattle.cv_cert.proofs.Laws.{Lines, Reads, Given, OneLine, Then, Each, Items, Many, reads_give, reads_line, reads_bind, reads_as, reads_each, reads_many}
+use Rattle.cv_cert.proofs.Laws.{Lines, Reads, Given, OneLine, Then, Each, Items, reads_give, reads_line, reads_bind, reads_as, reads_each, reads_many}
 use Rattle.cv_cert.proofs.LineLaws.{Fitting, next_row_takes, next_row_again, step_takes, step_again, set_takes, set_again, count_takes, count_again, case_takes, case_again, header_takes, header_again, end_takes, end_again, if_true_is, at_takes, at_again, at_line, picks_takes, picks_again, ArePicks, block_takes, block_again, proc_line}
 use Rattle.cv_cert.proofs.RowRoom.{can_follow, can_begin, needs_room}
 
@@ -144,6 +144,7 @@ statement_takes n line x e = elim (or_some (option_map inl (at_of n line)) (opti
     by_at : (o : Option ℕ) → at_of n line ≡ o → option_map inl o ≡ Some x → StartLine n x line
     by_at None p q = absurd cc
     by_at (Some rows) p q = (let same : inl rows ≡ x = cc in subst (λ (y : ℕ ⊎ List ℕ). StartLine n y line) same (at_takes n line rows p))
+
     by_picks : (o : Option (List ℕ)) → picks_of line ≡ o → option_map inr o ≡ Some x → StartLine n x line
     by_picks None p q = absurd cc
     by_picks (Some picks) p q = (let same : inr picks ≡ x = cc in subst (λ (y : ℕ ⊎ List ℕ). StartLine n y line) same (picks_takes line picks p))
@@ -224,18 +225,24 @@ unfolding StatementText
 statements_to n [] picks text small h = (omega arith, tt, h.0, h.1)
 statements_to n (rs ∷ rows) picks text small h =
     let one = h.2 in
-    let m = statements_to (suc n) rows picks h.1 (omega (arith, one.0)) h.3 in
-    (omega (arith, m.0), (one.1, m.1), m.2,
-     h.4 ∙ ap (λ (u : Lines). u ++ h.1) one.2 ∙ ap (λ (u : Lines). statement_lines n rs ++ u) m.3 ∙ sym (append_assoc (statement_lines n rs) (numbered statement_lines (suc n) rows) (picks_line picks ∷ [])))
+    let m = statements_to (suc n) rows picks h.1 (omega (arith, one.0)) h.3 in (
+      omega (arith, m.0),
+      (one.1, m.1),
+      m.2,
+      h.4 ∙ ap (λ (u : Lines). u ++ h.1) one.2 ∙ ap (λ (u : Lines). statement_lines n rs ++ u) m.3 ∙ sym (append_assoc (statement_lines n rs) (numbered statement_lines (suc n) rows) (picks_line picks ∷ [])),
+    )
 
 statements_from : (n : ℕ) (rows : List (List Row)) (picks : List ℕ) (text : Lines) → StatementsFrom n rows picks text → Items StatementText statement_next n rows picks text
 unfolding StatementText
 statements_from n [] picks text h = (h.2, h.3)
 statements_from n (rs ∷ rows) picks text h =
-    let all = h.1 in
-    (statement_lines n rs, numbered statement_lines (suc n) rows ++ picks_line picks ∷ [], (omega (arith, h.0), all.0, refl),
-     statements_from (suc n) rows picks (numbered statement_lines (suc n) rows ++ picks_line picks ∷ []) (omega (arith, h.0), all.1, h.2, refl),
-     h.3 ∙ append_assoc (statement_lines n rs) (numbered statement_lines (suc n) rows) (picks_line picks ∷ []))
+    let all = h.1 in (
+      statement_lines n rs,
+      numbered statement_lines (suc n) rows ++ picks_line picks ∷ [],
+      (omega (arith, h.0), all.0, refl),
+      statements_from (suc n) rows picks (numbered statement_lines (suc n) rows ++ picks_line picks ∷ []) (omega (arith, h.0), all.1, h.2, refl),
+      h.3 ∙ append_assoc (statement_lines n rs) (numbered statement_lines (suc n) rows) (picks_line picks ∷ []),
+    )
 
 pub StatementsText : List (List Row) × List ℕ → Lines → Type 0
 StatementsText x text = StatementsFrom 0 x.0 x.1 text
@@ -304,10 +311,10 @@ case_to n c text h =
     let given = others.4 in
     let last : parts.2 ≡ steps_line (length ss) ∷ map step_line ss = others.5 ∙ ap (λ (u : Lines). others.1 ++ u) given.1 ∙ append-nil others.1 ∙ t.2 in
     let rest : h.2 ≡ numbered statement_lines 0 p.0 ++ (picks_line p.1 ∷ (steps_line (length ss) ∷ map step_line ss)) =
-        parts.5 ∙ ap (λ (u : Lines). u ++ parts.2) s.3 ∙ ap (λ (u : Lines). (numbered statement_lines 0 p.0 ++ picks_line p.1 ∷ []) ++ u) last ∙ append_assoc (numbered statement_lines 0 p.0) (picks_line p.1 ∷ []) (steps_line (length ss) ∷ map step_line ss) in
+    parts.5 ∙ ap (λ (u : Lines). u ++ parts.2) s.3 ∙ ap (λ (u : Lines). (numbered statement_lines 0 p.0 ++ picks_line p.1 ∷ []) ++ u) last ∙ append_assoc (numbered statement_lines 0 p.0) (picks_line p.1 ∷ []) (steps_line (length ss) ∷ map step_line ss) in
     let picks = s.2 in
     let made : CaseText n (made_case p ss) text =
-        (k.1, record { statements = omega (arith, s.0); rows = s.1; picks_listed = picks.0; picks = picks.1; steps_listed = t.0; steps = t.1 }, h.5 ∙ ap (λ (u : Lines). u ++ h.2) first ∙ ap (λ (u : Lines). case_line n ∷ u) rest) in
+    (k.1, record { statements = omega (arith, s.0); rows = s.1; picks_listed = picks.0; picks = picks.1; steps_listed = t.0; steps = t.1 }, h.5 ∙ ap (λ (u : Lines). u ++ h.2) first ∙ ap (λ (u : Lines). case_line n ∷ u) rest) in
     subst (λ (d : CertCase). CaseText n d text) (sym given.0) made
 
 case_from : (n : ℕ) (c : CertCase) (text : Lines) → CaseText n c text → Then (OneLine (case_head n)) CaseParts c text
@@ -315,10 +322,14 @@ unfolding CaseText StatementsText StepsOf
 case_from n c text h =
     let k = h.1 in
     let stmts : Lines = numbered statement_lines 0 c.rows ++ picks_line c.picks ∷ [] in
-    let steps : Lines = steps_line (length c.steps) ∷ map step_line c.steps in
-    (tt, case_line n ∷ [], stmts ++ steps, (case_line n, ap if_true (case_again n h.0), refl),
-     ((c.rows, c.picks), stmts, steps, (omega (arith, k.statements), k.rows, (k.picks_listed, k.picks), refl), (c.steps, steps, [], (k.steps_listed, k.steps, refl), (refl, refl), sym (append-nil steps)), refl),
-     h.2 ∙ ap (λ (u : Lines). case_line n ∷ u) (sym (append_assoc (numbered statement_lines 0 c.rows) (picks_line c.picks ∷ []) steps)))
+    let steps : Lines = steps_line (length c.steps) ∷ map step_line c.steps in (
+      tt,
+      case_line n ∷ [],
+      stmts ++ steps,
+      (case_line n, ap if_true (case_again n h.0), refl),
+      ((c.rows, c.picks), stmts, steps, (omega (arith, k.statements), k.rows, (k.picks_listed, k.picks), refl), (c.steps, steps, [], (k.steps_listed, k.steps, refl), (refl, refl), sym (append-nil steps)), refl),
+      h.2 ∙ ap (λ (u : Lines). case_line n ∷ u) (sym (append_assoc (numbered statement_lines 0 c.rows) (picks_line c.picks ∷ []) steps)),
+    )
 
 pub reads_case : (n : ℕ) → IsNumber n → Reads (spec.a_case n) (CaseText n)
 unfolding spec.a_case
@@ -378,6 +389,7 @@ heading_takes line x e = elim (or_some (option_map inl (block_of line)) (option_
     by_block : (o : Option (List ℕ × ℕ)) → block_of line ≡ o → option_map inl o ≡ Some x → HeadingLine x line
     by_block None p q = absurd cc
     by_block (Some b) p q = (let same : inl b ≡ x = cc in subst (λ (y : (List ℕ × ℕ) ⊎ Unit {0}). HeadingLine y line) same (block_takes line b p))
+
     by_end : (b : Bool) → is_end line ≡ b → option_map inr (if_true b) ≡ Some x → HeadingLine x line
     by_end false p q = absurd cc
     by_end true p q = (let same : inr tt ≡ x = cc in subst (λ (y : (List ℕ × ℕ) ⊎ Unit {0}). HeadingLine y line) same (end_takes line p))
@@ -532,9 +544,9 @@ certificate_to c text h =
     let given = others.4 in
     let last : parts.2 ≡ flat_map block_lines bs.0 ++ (codes "end" ∷ []) ∷ [] = others.5 ∙ ap (λ (u : Lines). others.1 ++ u) given.1 ∙ append-nil others.1 ∙ t.1 in
     let rest : h.2 ≡ points_line (length ss) ∷ (map set_line ss ++ (flat_map block_lines bs.0 ++ (codes "end" ∷ []) ∷ [])) =
-        parts.5 ∙ ap (λ (u : Lines). u ++ parts.2) s.2 ∙ ap (λ (u : Lines). points_line (length ss) ∷ (map set_line ss ++ u)) last in
+    parts.5 ∙ ap (λ (u : Lines). u ++ parts.2) s.2 ∙ ap (λ (u : Lines). points_line (length ss) ∷ (map set_line ss ++ u)) last in
     let made : CertificateText (made_certificate ss bs) text =
-        (record { sets_listed = s.0; sets = s.1; blocks = t.0 }, h.5 ∙ ap (λ (u : Lines). u ++ h.2) first ∙ ap (λ (u : Lines). header_line ∷ u) rest) in
+    (record { sets_listed = s.0; sets = s.1; blocks = t.0 }, h.5 ∙ ap (λ (u : Lines). u ++ h.2) first ∙ ap (λ (u : Lines). header_line ∷ u) rest) in
     subst (λ (d : Certificate). CertificateText d text) (sym given.0) made
 
 certificate_from : (c : Certificate) (text : Lines) → CertificateText c text → Then (OneLine header_head) CertificateParts c text
@@ -542,10 +554,14 @@ unfolding CertificateText FamilyText BlocksText
 certificate_from c text h =
     let k = h.0 in
     let family : Lines = points_line (length c.sets) ∷ map set_line c.sets in
-    let body : Lines = flat_map block_lines c.blocks ++ (codes "end" ∷ []) ∷ [] in
-    (tt, header_line ∷ [], family ++ body, (header_line, ap if_true header_again, refl),
-     (c.sets, family, body, (k.sets_listed, k.sets, refl), ((c.blocks, tt), body, [], (k.blocks, refl), (refl, refl), sym (append-nil body)), refl),
-     h.1)
+    let body : Lines = flat_map block_lines c.blocks ++ (codes "end" ∷ []) ∷ [] in (
+      tt,
+      header_line ∷ [],
+      family ++ body,
+      (header_line, ap if_true header_again, refl),
+      (c.sets, family, body, (k.sets_listed, k.sets, refl), ((c.blocks, tt), body, [], (k.blocks, refl), (refl, refl), sym (append-nil body)), refl),
+      h.1,
+    )
 
 pub reads_certificate : Reads spec.certificate CertificateText
 unfolding spec.certificate

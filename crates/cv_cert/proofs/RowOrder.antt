@@ -1,14 +1,11 @@
 -- The order of rows, and which rows are canonical.
-use Rattle.std.proofs.Common.{◌≡◌, ◌≢◌, ◌==◌, ℕ, zero, suc, ◌+◌, ◌-◌, ◌<◌, ◌≤◌, ◌^◌, Bool, true, false, not, ◌&&◌, ◌||◌, cond, nat_lt, eqb, List, [], ◌∷◌, ◌++◌, length, get_or, drop, Option, Some, None, ℤ, pos, negsuc, ◌<ℤ◌, refl, sym, ap, subst, ◌∙◌, arith, rules, IsTrue, FitsSigned}
-use Rattle.std.specs.Prelude.{int_lt}
+use Rattle.std.proofs.Common.{◌≡◌, ◌≢◌, ℕ, zero, suc, ◌-◌, ◌<◌, ◌≤◌, Bool, true, false, not, ◌&&◌, cond, nat_lt, List, [], ◌∷◌, ◌++◌, length, get_or, Some, None, ℤ, pos, refl, sym, ap, subst, ◌∙◌, arith}
 use Rattle.std.specs.Ordering.{int_eq}
 use Rattle.std.specs.List.{All, list_all}
 use Rattle.std.proofs.lemmas.Bool.Decides.{nat_tests}
 use Rattle.std.proofs.lemmas.Int.{ints}
-use Rattle.std.proofs.lemmas.Grind.{common_steps}
 use Rattle.cv_num.specs.Pairs.{IsCanonical}
 use Rattle.cv_num.specs.declared.rows.Row.{Row}
-use Rattle.cv_cert.specs.Certificate.{is_before, pair_before, same_pair}
 use Rattle.cv_cert.specs.Tokens.{is_canonical}
 use Rattle.cv_cert.specs.Lines.{if_canonical, made_row}
 use Rattle.cv_cert.specs.Views.{last_row}

@@ -1,5 +1,5 @@
 -- How many rows can stand behind a row: there are enough just where there is room.
-use Rattle.std.proofs.Common.{◌≡◌, ◌≢◌, ◌==◌, ℕ, zero, suc, ◌+◌, ◌<◌, ◌≤◌, ◌^◌, Bool, true, false, ◌&&◌, ◌||◌, cond, nat_lt, eqb, List, [], ◌∷◌, length, Option, Some, None, ℤ, pos, negsuc, ◌<ℤ◌, refl, sym, ap, subst, ◌∙◌, arith, rules, IsTrue, FitsSigned, eqb-true, eq-eqb, ◌⊎◌, inl, inr, lit<}
+use Rattle.std.proofs.Common.{◌≡◌, ◌≢◌, ◌==◌, ℕ, suc, ◌+◌, ◌<◌, ◌≤◌, ◌^◌, Bool, true, false, ◌&&◌, ◌||◌, nat_lt, List, [], ◌∷◌, length, Some, None, ℤ, pos, negsuc, ◌<ℤ◌, refl, sym, ap, subst, ◌∙◌, arith, FitsSigned, eqb-true, eq-eqb, lit<}
 use Rattle.std.specs.Prelude.{int_lt}
 use Rattle.std.specs.Int.{w64}
 use Rattle.std.specs.List.{All, AllByRecursion}
@@ -8,7 +8,7 @@ use Rattle.std.proofs.lemmas.Bool.Decides.{nat_tests}
 use Rattle.std.proofs.lemmas.Int.{ints}
 use Rattle.cv_num.specs.Pairs.{IsCanonical}
 use Rattle.cv_num.specs.declared.rows.Row.{Row}
-use Rattle.cv_cert.specs.Certificate.{IsNumber, IsPair, IsRow, IsAfter, AreRows, is_before, pair_before, same_pair}
+use Rattle.cv_cert.specs.Certificate.{IsNumber, IsPair, IsRow, AreRows, is_before, pair_before}
 use Rattle.cv_cert.specs.Tokens.{has_room, room_above}
 use Rattle.cv_cert.proofs.LineLaws.{Fitting}
 
@@ -66,34 +66,37 @@ behind_last n v c ps (pos k) before e small num last is room =
     let lt : suc n + k < 2 ^ 63 = is_lt (suc n + k) (2 ^ 63) room in
     let fits : FitsSigned w64 (pos (suc k)) = grind (arith, ints) in
     let step : int_lt (pos k) (pos (suc k)) ≡ true = grind (arith, ints) in
-    let before_it : pair_before (v, pos k) (v, pos (suc k)) ≡ true = rw (not_lt_test v v (omega arith), eq-eqb v v refl, step) refl in
-    (pair_row (v, pos (suc k)),
-     record {
-       row = one_pair v (pos (suc k)) num fits (not_none k);
-       after = ap (λ (qs : List (ℕ × ℤ)). is_before qs ((v, pos (suc k)) ∷ [])) e ∙ ap (λ (z : ℤ). is_before ((v, z) ∷ ps) ((v, pos (suc k)) ∷ [])) is ∙ true_or (pair_before (v, pos k) (v, pos (suc k))) _ before_it;
-       room = false_or (nat_lt v 4294967295) _ (not_lt_test v 4294967295 last) ∙ lt_test (n + suc k) (2 ^ 63) (omega arith);
-     })
+    let before_it : pair_before (v, pos k) (v, pos (suc k)) ≡ true = rw (not_lt_test v v (omega arith), eq-eqb v v refl, step) refl in (
+      pair_row (v, pos (suc k)),
+      record {
+        row = one_pair v (pos (suc k)) num fits (not_none k);
+        after = ap (λ (qs : List (ℕ × ℤ)). is_before qs ((v, pos (suc k)) ∷ [])) e ∙ ap (λ (z : ℤ). is_before ((v, z) ∷ ps) ((v, pos (suc k)) ∷ [])) is ∙ true_or (pair_before (v, pos k) (v, pos (suc k))) _ before_it;
+        room = false_or (nat_lt v 4294967295) _ (not_lt_test v 4294967295 last) ∙ lt_test (n + suc k) (2 ^ 63) (omega arith);
+      },
+    )
 behind_last n v c ps (negsuc k) before e small num last is room =
     let fits : FitsSigned w64 (pos 1) = grind (arith, ints) in
     let step : int_lt (negsuc k) (pos 1) ≡ true = grind (arith, ints) in
-    let before_it : pair_before (v, negsuc k) (v, pos 1) ≡ true = rw (not_lt_test v v (omega arith), eq-eqb v v refl, step) refl in
-    (pair_row (v, pos 1),
-     record {
-       row = one_pair v (pos 1) num fits (not_none 0);
-       after = ap (λ (qs : List (ℕ × ℤ)). is_before qs ((v, pos 1) ∷ [])) e ∙ ap (λ (z : ℤ). is_before ((v, z) ∷ ps) ((v, pos 1) ∷ [])) is ∙ true_or (pair_before (v, negsuc k) (v, pos 1)) _ before_it;
-       room = false_or (nat_lt v 4294967295) _ (not_lt_test v 4294967295 last) ∙ lt_test (n + 1) (2 ^ 63) (omega arith);
-     })
+    let before_it : pair_before (v, negsuc k) (v, pos 1) ≡ true = rw (not_lt_test v v (omega arith), eq-eqb v v refl, step) refl in (
+      pair_row (v, pos 1),
+      record {
+        row = one_pair v (pos 1) num fits (not_none 0);
+        after = ap (λ (qs : List (ℕ × ℤ)). is_before qs ((v, pos 1) ∷ [])) e ∙ ap (λ (z : ℤ). is_before ((v, z) ∷ ps) ((v, pos 1) ∷ [])) is ∙ true_or (pair_before (v, negsuc k) (v, pos 1)) _ before_it;
+        room = false_or (nat_lt v 4294967295) _ (not_lt_test v 4294967295 last) ∙ lt_test (n + 1) (2 ^ 63) (omega arith);
+      },
+    )
 
 -- behind a pair of another variable: the next variable with the least coefficient
 behind_other : (n v : ℕ) (c : ℤ) (ps : List (ℕ × ℤ)) (before : Row) → before.pairs ≡ (v, c) ∷ ps → v < 4294967295 → (r : Row) × Fitting n (Some before) r
 unfolding least
-behind_other n v c ps before e lt =
-    (pair_row (suc v, least),
-     record {
-       row = one_pair (suc v) least (omega arith) least_fits (λ z. absurd cc);
-       after = ap (λ (qs : List (ℕ × ℤ)). is_before qs ((suc v, least) ∷ [])) e ∙ true_or (pair_before (v, c) (suc v, least)) _ (true_or (nat_lt v (suc v)) _ (lt_test v (suc v) (omega arith)));
-       room = or_true (nat_lt (suc v) 4294967295);
-     })
+behind_other n v c ps before e lt = (
+  pair_row (suc v, least),
+  record {
+    row = one_pair (suc v) least (omega arith) least_fits (λ z. absurd cc);
+    after = ap (λ (qs : List (ℕ × ℤ)). is_before qs ((suc v, least) ∷ [])) e ∙ true_or (pair_before (v, c) (suc v, least)) _ (true_or (nat_lt v (suc v)) _ (lt_test v (suc v) (omega arith)));
+    room = or_true (nat_lt (suc v) 4294967295);
+  },
+)
 
 pub can_follow : (n : ℕ) (before : Row) → suc n < 2 ^ 32 → IsRow before → has_room (suc n) before.pairs ≡ true → (r : Row) × Fitting n (Some before) r
 can_follow n before small h room = by_pairs before.pairs refl
@@ -106,8 +109,10 @@ can_follow n before small h room = by_pairs before.pairs refl
       where
         first : IsPair p
         first = (let all : AllByRecursion IsPair (p ∷ ps) = subst (λ (qs : List (ℕ × ℤ)). AllByRecursion IsPair qs) e h.pairs in all.0)
+
         room_of : has_room (suc n) (p ∷ ps) ≡ true
         room_of = ap (has_room (suc n)) (sym e) ∙ room
+
         by_test : (b : Bool) → nat_lt p.0 4294967295 ≡ b → (r : Row) × Fitting n (Some before) r
         by_test true t = behind_other n p.0 p.1 ps before e (is_lt p.0 4294967295 t)
         by_test false t = behind_last n p.0 p.1 ps p.1 before e small first.0 (not_lt p.0 4294967295 t) refl (sym (false_or (nat_lt p.0 4294967295) (room_above (suc n) p.1) t) ∙ room_of)
@@ -128,6 +133,7 @@ same_variable v w c d ps qs last num canon pairs e = by_tests (nat_lt v w) (v ==
         nothing [] t = absurd cc
         nothing (p ∷ ps) t = absurd cc
     no_more (q ∷ qs) a b s t = (let k : w < q.0 = a 0 q (omega arith) in let m = (b.0).0 in absurd (omega arith))
+
     by_tests : (x y z u : Bool) → nat_lt v w ≡ x → (v == w) ≡ y → int_lt c d ≡ z → int_eq c d ≡ u → (x || (y && z)) || ((y && u) && is_before ps qs) ≡ true → (v ≡ w) × (c <ℤ d)
     by_tests true y z u p q r s t = absurd (omega (arith, is_lt v w p))
     by_tests false false z u p q r s t = absurd cc
@@ -155,6 +161,7 @@ room_for_more n ((v, pos c) ∷ ps) ((w, d) ∷ qs) pairs canon lt room = by_tes
         let up : c < k = omega (arith, ints) in
         let m : n + k < 2 ^ 63 = is_lt (n + k) (2 ^ 63) (sym (false_or (nat_lt w 4294967295) (nat_lt (n + k) (2 ^ 63)) (not_lt_test w 4294967295 (omega arith))) ∙ room) in
         omega arith
+
     by_test : (b : Bool) → nat_lt v 4294967295 ≡ b → b || room_above (suc n) (pos c) ≡ true
     by_test true t = refl
     by_test false t =

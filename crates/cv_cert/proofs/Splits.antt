@@ -1,11 +1,10 @@
 -- The lines of a text, and the tokens of a line, one by one.
-use Rattle.std.proofs.Common.{◌≡◌, ◌==◌, ℕ, suc, ◌+◌, ◌-◌, ◌<◌, ◌≤◌, Bool, true, false, cond, List, [], ◌∷◌, ◌++◌, length, take, drop, get_or, refl, sym, ap, subst, ◌∙◌, arith, rules, drop-cons, add-one, ◌⊎◌, inl, inr}
-use Rattle.std.specs.List.{position_or_len, before_first, after_first, slice_split, All, onto_first}
+use Rattle.std.proofs.Common.{◌≡◌, ◌==◌, ℕ, suc, ◌+◌, ◌<◌, ◌≤◌, Bool, true, false, cond, List, [], ◌∷◌, length, take, drop, get_or, refl, sym, ap, ◌∙◌, arith, drop-cons, add-one, inl, inr}
+use Rattle.std.specs.List.{position_or_len, slice_split, All, onto_first}
 use Rattle.std.proofs.lemmas.List.Splits.{slice_split_first, slice_split_none}
 use Rattle.std.proofs.lemmas.List.Sums.{fails_before_first}
 use Rattle.std.proofs.lemmas.Bool.{cases_lt}
 use Rattle.std.proofs.lemmas.Grind.{common_steps}
-use Rattle.cv_cert.specs.Text.{Line}
 use Rattle.cv_cert.specs.Reading.{tokens_of, whole_lines, lines_in, unfinished}
 use Rattle.cv_cert.specs.Tokens.{fields}
 
@@ -29,11 +28,11 @@ at_place bs e lt = rw add-one (sym (drop-cons bs e 0 lt))
 
 pub tokens_first : (bs : List ℕ) (e : ℕ) → e ≡ position_or_len (λ b. b == 32) bs → tokens_of bs ≡ take e bs ∷ fields (drop e bs)
 tokens_first bs e h = elim (cases_lt e (length bs)) [
-    | inl lt ↦ (let k : position_or_len space bs < length bs = omega (arith, h) in
-        slice_split_first space bs 0 k ∙ ap (λ n. take n bs ∷ tokens_of (drop (n + 1) bs)) (sym h) ∙ ap (λ (ds : List ℕ). take e bs ∷ fields ds) (at_place bs e lt))
-    | inr ge ↦ (let k : length bs ≤ position_or_len space bs = omega (arith, h) in
-        slice_split_none space bs (none_before space bs k) ∙ ap (λ (t : List ℕ). t ∷ []) (sym (take_whole bs e ge)) ∙ ap (λ (ds : List ℕ). take e bs ∷ fields ds) (sym (drop_whole bs e ge)))
-  ]
+  | inl lt ↦ (let k : position_or_len space bs < length bs = omega (arith, h) in
+      slice_split_first space bs 0 k ∙ ap (λ n. take n bs ∷ tokens_of (drop (n + 1) bs)) (sym h) ∙ ap (λ (ds : List ℕ). take e bs ∷ fields ds) (at_place bs e lt))
+  | inr ge ↦ (let k : length bs ≤ position_or_len space bs = omega (arith, h) in
+      slice_split_none space bs (none_before space bs k) ∙ ap (λ (t : List ℕ). t ∷ []) (sym (take_whole bs e ge)) ∙ ap (λ (ds : List ℕ). take e bs ∷ fields ds) (sym (drop_whole bs e ge)))
+]
 
 pub split_is_some : (p : ℕ → Bool) (xs : List ℕ) → (t : List ℕ) × (ts : List (List ℕ)) × (slice_split p xs ≡ t ∷ ts)
 split_is_some p [] = ([], [], refl)
@@ -75,5 +74,6 @@ lines_short text = short text
         by_test false ([] ∷ []) w h = omega arith
         by_test false ((c ∷ cs) ∷ []) w h = omega arith
         by_test false (t ∷ (u ∷ us)) w h = omega arith
+
     short : (text : List ℕ) → length (whole_lines (slice_split newline text)) ≤ length text
     short text = parts newline text

@@ -1,18 +1,17 @@
 -- What the reading of all lines says of the bytes.
-use Rattle.std.proofs.Common.{◌≡◌, ℕ, zero, suc, ◌+◌, ◌-◌, ◌<◌, ◌≤◌, List, [], ◌∷◌, ◌++◌, length, take, drop, Option, Some, None, option_map, Result, Ok, Err, refl, sym, ap, subst, ◌∙◌, arith, append_assoc, ◌⊎◌, inl, inr, IsSomeAnd}
+use Rattle.std.proofs.Common.{◌≡◌, ℕ, zero, suc, ◌+◌, ◌<◌, ◌≤◌, List, [], ◌∷◌, ◌++◌, length, take, drop, Option, Some, None, option_map, Result, Ok, Err, refl, sym, ap, subst, ◌∙◌, arith, append_assoc, inl, inr, IsSomeAnd}
 use Rattle.std.proofs.lemmas.List.{append-nil, length-append}
 use Rattle.std.proofs.lemmas.Grind.{common_steps}
-use Rattle.std.specs.List.{AllByRecursion}
 use Rattle.cv_cert.specs.Certificate.{Certificate, IsCertificate}
-use Rattle.cv_cert.specs.Text.{Line, line_text, text_of_lines, lines_of, text_of}
+use Rattle.cv_cert.specs.Text.{Line, text_of_lines, lines_of, text_of}
 use Rattle.cv_cert.specs.Wrong.{BeginsText, first_lines, IsRightTo, IsFirstWrong}
-use Rattle.cv_cert.specs.Reading.{tokens_of, lines_in, unfinished, all_by, left_by, FailsAll, Outcome}
+use Rattle.cv_cert.specs.Reading.{tokens_of, lines_in, all_by, left_by, FailsAll}
 use Rattle.cv_cert.specs.declared.fault.ReadError.{ReadError}
 use Rattle.cv_cert.specs.declared.fault.ReadError.TheVariants.{Fault}
 use Rattle.cv_cert.specs.Lines.{certificate}
 use Rattle.cv_cert.proofs.Laws.{Lines, Viable, NoneGoesOn, FirstWrong, all_again, all_taken, first_wrong, one_value}
 use Rattle.cv_cert.proofs.Phrases.{CertificateText, reads_certificate}
-use Rattle.cv_cert.proofs.Clean.{CleanLine, CleanLines, certificate_clean}
+use Rattle.cv_cert.proofs.Clean.{CleanLines, certificate_clean}
 use Rattle.cv_cert.proofs.Joined.{lines_joined, text_append, no_lines, line_then, line_or_none, nothing_left, some_left, opens_all, first_then, first_none, first_joined, FirstLine}
 
 -- ---- one text, one value
@@ -72,7 +71,7 @@ right_before front rest n clean v le =
     let b = drop n front in
     let text : text_of_lines front ++ rest ≡ text_of_lines a ++ (text_of_lines b ++ rest) = ap (λ (u : List ℕ). u ++ rest) (ap text_of_lines (sym (parted n front)) ∙ text_append a b) ∙ append_assoc (text_of_lines a) (text_of_lines b) rest in
     let e : first_lines n (text_of_lines front ++ rest) ≡ Some (text_of_lines a ++ []) =
-        ap (first_lines n) text ∙ ap (λ k. first_lines k (text_of_lines a ++ (text_of_lines b ++ rest))) (sym (taken_length n front le)) ∙ first_joined a (text_of_lines b ++ rest) 0 (clean_take n front clean) in
+    ap (first_lines n) text ∙ ap (λ k. first_lines k (text_of_lines a ++ (text_of_lines b ++ rest))) (sym (taken_length n front le)) ∙ first_joined a (text_of_lines b ++ rest) 0 (clean_take n front clean) in
     some_front (first_lines n (text_of_lines front ++ rest)) (text_of_lines a ++ []) e (begins front v n)
 
 -- a text that begins with lines and one line more
@@ -90,9 +89,11 @@ wrong_there front at rest clean e fails right =
   where
     none : IsSomeAnd (option_map (λ (u : List ℕ). text_of_lines front ++ u) None) BeginsText → ⊥
     none h = h
+
     by_at : (line more : List ℕ) (at : Lines) → FirstLine rest line more → tokens_of line ∷ lines_in more ≡ at → NoneGoesOn CertificateText front at → BeginsText (text_of_lines front ++ (line ++ 10 ∷ [])) → ⊥
     by_at line more [] f k fails b = absurd cc
     by_at line more (t ∷ ts) f k fails b = (let same : tokens_of line ≡ t = cc in fails (goes_on front line more t clean (record { parts = refl; plain = f.plain }) same b))
+
     by_line : (line more : List ℕ) → FirstLine rest line more → IsSomeAnd (option_map (λ (u : List ℕ). text_of_lines front ++ u) (first_lines 1 rest)) BeginsText → ⊥
     by_line line more f h =
         let one : first_lines 1 rest ≡ Some (line ++ 10 ∷ []) = ap (first_lines 1) f.parts ∙ first_then line more 0 f.plain ∙ ap (λ (u : List ℕ). Some u) (append-nil (line ++ 10 ∷ [])) in

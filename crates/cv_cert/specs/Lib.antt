@@ -4,4 +4,5 @@ pub mod Wrong
 pub mod Reading
 pub mod Tokens
 pub mod Lines
+pub mod Writing
 pub mod Views

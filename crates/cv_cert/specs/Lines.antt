@@ -1,5 +1,5 @@
 -- What each line of a certificate is read as, and the reading of a whole one.
-use Rattle.std.specs.Prelude.{◌≡◌, ℕ, zero, suc, ◌+◌, ℤ, pos, Bool, true, false, ◌&&◌, ◌==◌, if◌then◌else◌, List, [], ◌∷◌, length, codes, Option, Some, None, option_map, option_and_then, Result, Ok, Err, ◌⊎◌}
+use Rattle.std.specs.Prelude.{ℕ, suc, ℤ, Bool, true, false, ◌&&◌, ◌==◌, if◌then◌else◌, List, [], ◌∷◌, length, codes, Option, Some, None, option_map, option_and_then, ◌⊎◌}
 use Rattle.std.proofs.Common.{inl, inr}
 use Rattle.std.specs.Str.{bytes_eq}
 use Rattle.cv_core.specs.Grammar.{is_name}
@@ -10,7 +10,7 @@ use Rattle.cv_cert.specs.declared.certificate.CertCase.{CertCase}
 use Rattle.cv_cert.specs.Certificate.{Certificate}
 use Rattle.cv_cert.specs.Text.{Line}
 use Rattle.cv_cert.specs.Tokens.{number_of, integer_of, both, numbers_of, ascending_from, pairs_by, is_canonical, has_room, is_after}
-use Rattle.cv_cert.specs.Reading.{Outcome, Reading, and_then, ◌>>=◌, give, one_line, each, many}
+use Rattle.cv_cert.specs.Reading.{Reading, ◌>>=◌, give, one_line, each, many}
 
 abbrev pub or_else : {A : Type 0} → Option A → Option A → Option A
 or_else (Some a) other = Some a

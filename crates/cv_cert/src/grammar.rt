@@ -96,10 +96,7 @@ fn next_statement(alloc: Global, n: u64, text: &[u8]) -> Result<(Statement, &[u8
 }
 
 /// The rows of all statements, and the picks behind them.
-fn statements(
-    alloc: Global,
-    text: &[u8],
-) -> Result<(List<List<Row>>, List<u32>, &[u8]), ReadError>
+fn statements(alloc: Global, text: &[u8]) -> Result<(List<List<Row>>, List<u32>, &[u8]), ReadError>
     ensures { Gives (λ x. ((x.0, x.1), lines_in x.2.now)) result (spec.statements (lines_in text.now)) }
 {
     let mut found = List::new(alloc);
@@ -258,11 +255,7 @@ fn set(alloc: Global, text: &[u8]) -> Result<(List<u32>, &[u8]), ReadError>
 
 /// `count` lines `set ..`.
 #[tactic(auto, unfolding(crate::specs::Lines::set_lines))]
-fn set_lines(
-    alloc: Global,
-    count: u32,
-    text: &[u8],
-) -> Result<(List<List<u32>>, &[u8]), ReadError>
+fn set_lines(alloc: Global, count: u32, text: &[u8]) -> Result<(List<List<u32>>, &[u8]), ReadError>
     ensures { Gives (λ x. (x.0, lines_in x.1.now)) result (spec.set_lines count (lines_in text.now)) }
 {
     let mut found = List::new(alloc);

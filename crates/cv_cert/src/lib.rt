@@ -11,7 +11,12 @@ mod names;
 mod order;
 mod read;
 mod tokens;
+mod write;
 
 pub use certificate::{Block, Cert, CertCase};
 pub use fault::CertError;
-pub use read::read_cert;
+pub use read::{one_text_law, read_cert};
+pub use write::write_cert;
+
+#[cfg(test)]
+mod tests;

@@ -1,5 +1,6 @@
 //! The certificate of a text.
-ghost use Rattle.std.specs.Prelude.{◌≡◌, ◌≢◌, ◌+◌, ◌-◌, ◌≤◌, length, IfOk, IfErr};
+ghost use Rattle.std.specs.Prelude.{◌≡◌, ◌≢◌, ◌+◌, ◌-◌, ◌≤◌, length, IfOk, IfErr, MatchResult};
+ghost use Rattle.cv_cert.specs.declared.fault.CertError.TheVariants.{Memory};
 ghost use Rattle.cv_cert.specs.Certificate.{Certificate, IsCertificate};
 ghost use Rattle.cv_cert.specs.Text.{text_of};
 ghost use Rattle.cv_cert.specs.Wrong.{IfLine, IsFirstWrong};
@@ -39,6 +40,8 @@ pub fn read_cert(alloc: Global, text: &[u8]) -> Result<Cert, CertError>
     requires { length text.now ≤ 4294967294 }
     // What is read is what the text stands for.
     ensures value { IfOk result (λ c. IsCertificate c × (text.now ≡ text_of c)) }
+    // The text of a certificate is read as that one, unless memory runs out.
+    ensures again { (c : Certificate) → IsCertificate c → text.now ≡ text_of c → MatchResult result (λ found. found ≡ c) (λ e. e ≡ Memory) }
     // Where a line is named, the text is that of no certificate.
     ensures none { IfErr result (λ e. IfLine e (λ n. (c : Certificate) → IsCertificate c → text.now ≢ text_of c)) }
     // The line is the first that is wrong.
@@ -53,3 +56,8 @@ pub fn read_cert(alloc: Global, text: &[u8]) -> Result<Cert, CertError>
         Err(ReadError::Memory) => Err(CertError::Memory),
     }
 }
+
+/// No two certificates have the same text.
+pub fn one_text_law()
+    ensures { (a b : Certificate) → IsCertificate a → IsCertificate b → text_of a ≡ text_of b → a ≡ b }
+{}

@@ -1,4 +1,4 @@
-use Rattle.std.proofs.Common.{◌≡◌, ◌≤◌, ◌^◌, length}
+use Rattle.std.proofs.Common.{◌≡◌, length}
 use Rattle.cv_cert.specs.Tokens.{fields, ascending_from}
 use Rattle.cv_cert.proofs.Found.{behind}
 use Rattle.cv_cert.proofs.fields.ascending.Given as goal

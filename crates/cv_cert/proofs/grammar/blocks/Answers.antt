@@ -1,8 +1,8 @@
-use Rattle.std.proofs.Common.{◌≡◌, ◌++◌, ◌∷◌, [], sym, ap, subst, ◌∙◌, List, Ok, arith}
+use Rattle.std.proofs.Common.{sym, ap, subst, ◌∙◌, List, Ok}
 use Rattle.std.proofs.lemmas.Result.{err_from_is_err_and}
 use Rattle.cv_cert.specs.declared.certificate.Block.{Block}
 use Rattle.cv_cert.specs.declared.grammar.NextBlock.{NextBlock}
-use Rattle.cv_cert.specs.Reading.{lines_in, Fails, Outcome}
+use Rattle.cv_cert.specs.Reading.{lines_in, Fails}
 use Rattle.cv_cert.specs.Lines.{blocks}
 use Rattle.cv_cert.specs.Views.{next_block}
 use Rattle.cv_cert.proofs.ManyLoops.{nothing_before, blocks_left, blocks_go, blocks_end, blocks_fail, blocks_shrink}

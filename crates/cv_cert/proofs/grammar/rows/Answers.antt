@@ -1,4 +1,4 @@
-use Rattle.std.proofs.Common.{◌≡◌, ◌-◌, ◌+◌, ◌++◌, ◌∷◌, [], suc, sym, ap, ◌∙◌, arith, List, ℕ}
+use Rattle.std.proofs.Common.{◌≡◌, ◌-◌, ◌+◌, ◌++◌, ◌∷◌, [], suc, sym, ap, ◌∙◌, arith, List}
 use Rattle.cv_num.specs.declared.rows.Row.{Row}
 use Rattle.cv_cert.specs.Reading.{lines_in}
 use Rattle.cv_cert.proofs.Loops.{left_after, loop_goes, row_item, row_next}

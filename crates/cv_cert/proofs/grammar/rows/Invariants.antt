@@ -1,4 +1,4 @@
-use Rattle.std.proofs.Common.{◌≡◌, ◌-◌, length}
+use Rattle.std.proofs.Common.{◌≡◌, ◌-◌}
 use Rattle.cv_cert.specs.Reading.{lines_in}
 use Rattle.cv_cert.specs.Lines.{rows}
 use Rattle.cv_cert.proofs.Loops.{left_after, row_item, row_next}

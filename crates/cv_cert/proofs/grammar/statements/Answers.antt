@@ -1,8 +1,8 @@
-use Rattle.std.proofs.Common.{◌≡◌, ◌++◌, ◌∷◌, [], sym, ap, subst, ◌∙◌, List, Ok, arith}
+use Rattle.std.proofs.Common.{sym, ap, subst, ◌∙◌, List, Ok}
 use Rattle.std.proofs.lemmas.Result.{err_from_is_err_and}
 use Rattle.cv_num.specs.declared.rows.Row.{Row}
 use Rattle.cv_cert.specs.declared.grammar.Statement.{Statement}
-use Rattle.cv_cert.specs.Reading.{lines_in, Fails, Outcome}
+use Rattle.cv_cert.specs.Reading.{lines_in, Fails}
 use Rattle.cv_cert.specs.Lines.{statements}
 use Rattle.cv_cert.specs.Views.{rows_or_picks}
 use Rattle.cv_cert.proofs.ManyLoops.{nothing_before, statements_left, statements_go, statements_end, statements_fail, statements_shrink}

@@ -1,4 +1,4 @@
-use Rattle.std.proofs.Common.{◌≡◌, ◌-◌, length}
+use Rattle.std.proofs.Common.{◌≡◌, ◌-◌}
 use Rattle.cv_cert.specs.Reading.{lines_in}
 use Rattle.cv_cert.specs.Lines.{step_lines}
 use Rattle.cv_cert.proofs.Loops.{left_after, step_item, next_none, no_state, none_pushed}

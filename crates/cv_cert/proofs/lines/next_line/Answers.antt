@@ -1,6 +1,5 @@
-use Rattle.std.proofs.Common.{◌≡◌, ◌<◌, length, drop, ap, ◌∷◌, ◌∙◌, arith, rules}
+use Rattle.std.proofs.Common.{◌<◌, length, arith, rules}
 use Rattle.std.proofs.lemmas.Grind.{common_steps}
-use Rattle.cv_cert.specs.Reading.{tokens_of, lines_in}
 use Rattle.cv_cert.proofs.Splits.{line_first, no_line}
 use Rattle.cv_cert.proofs.lines.next_line.Goals as goal
 

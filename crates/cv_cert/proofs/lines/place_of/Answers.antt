@@ -1,4 +1,4 @@
-use Rattle.std.proofs.Common.{◌==◌, arith, rules, sym, eq-eqb}
+use Rattle.std.proofs.Common.{◌==◌, arith, sym}
 use Rattle.std.proofs.lemmas.Grind.{common_steps}
 use Rattle.std.proofs.lemmas.List.Sums.{position_or_len_is}
 use Rattle.cv_cert.proofs.lines.place_of.Goals as goal

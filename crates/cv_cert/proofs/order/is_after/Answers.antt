@@ -1,4 +1,4 @@
-use Rattle.std.proofs.Common.{◌≡◌, sym, ap, ◌∙◌, arith, rules, Option, Some, List, ℕ, ℤ}
+use Rattle.std.proofs.Common.{sym, ap, ◌∙◌, arith, Option, Some, List, ℕ, ℤ}
 use Rattle.cv_num.specs.declared.rows.Row.{Row}
 use Rattle.cv_cert.specs.Certificate.{is_before}
 use Rattle.cv_cert.specs.Tokens.{is_after}

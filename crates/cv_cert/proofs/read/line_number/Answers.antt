@@ -1,4 +1,4 @@
-use Rattle.std.proofs.Common.{arith, rules}
+use Rattle.std.proofs.Common.{rules}
 use Rattle.cv_cert.proofs.Splits.{lines_short}
 use Rattle.cv_cert.proofs.read.line_number.Goals as goal
 

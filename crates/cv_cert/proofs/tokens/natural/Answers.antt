@@ -1,4 +1,4 @@
-use Rattle.std.proofs.Common.{sym, ◌∙◌, arith, rules}
+use Rattle.std.proofs.Common.{sym, ◌∙◌, arith}
 use Rattle.cv_cert.proofs.Numbers.{bad_digit, over}
 use Rattle.cv_cert.proofs.tokens.natural.Goals as goal
 

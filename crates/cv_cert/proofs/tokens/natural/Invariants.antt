@@ -1,6 +1,6 @@
 use Rattle.std.proofs.Common.{◌≡◌, ◌≤◌, ◌+◌, length}
 use Rattle.std.specs.Str.{all_ascii_digits}
-use Rattle.cv_cert.specs.Tokens.{digits_after, no_leading_zero}
+use Rattle.cv_cert.specs.Tokens.{digits_after}
 use Rattle.cv_cert.proofs.tokens.natural.Given as goal
 
 abbrev pub invariant-loop-rest : goal.invariant-loop-rest

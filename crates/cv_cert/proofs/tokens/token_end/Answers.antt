@@ -1,4 +1,3 @@
-use Rattle.std.proofs.Common.{rules, refl}
 use Rattle.cv_cert.proofs.Splits.{tokens_first}
 use Rattle.cv_cert.proofs.tokens.token_end.Goals as goal
 

@@ -1,0 +1,11 @@
+use Rattle.std.proofs.Common.{◌++◌, [], ◌∷◌, List, ℕ, ap, ◌∙◌, codes, length}
+use Rattle.cv_cert.specs.Writing.{number_text, numbers_text}
+use Rattle.cv_cert.proofs.Written.{four, picks_is}
+use Rattle.cv_cert.proofs.write.push_picks.Goals as goal
+
+pub returns : goal.returns
+returns c =
+    let o = c.args.out.now.items in
+    let s = c.args.picks.now in
+    four o (codes "picks") (number_text (length s)) (numbers_text s) (10 ∷ []) c.extend_from_slice.new.self.items c.push_number.new.out.items c.push_numbers.new.out.items c.push.new.self.items c.in_ok-extend_from_slice.ensures.items c.in_ok-push_number.ensures c.in_ok-push_numbers.ensures c.in_ok-push.ensures.items
+    ∙ ap (λ (u : List ℕ). o ++ u) (picks_is s)
