@@ -1,0 +1,3 @@
+pub mod CheckLemmas
+pub mod Decisions
+pub mod Outcomes

@@ -1,0 +1,117 @@
+//! The command `check FILE CERT`.
+ghost use Rattle.std.specs.Prelude.{◌≡◌, ◌≢◌, ◌≤◌, ◌⊎◌, length, IfOk, IfErr, IfSome, Some, Ok, Err, true, IsTrue, codes, nat_eq, ◌↔◌};
+ghost use Rattle.std.specs.List.{ends_with};
+ghost use Rattle.cv_core.specs.declared.program.Program.{Program as Tree};
+ghost use Rattle.cv_text.specs.Whole.{Spells};
+ghost use Rattle.cv_text.specs.Narrow.{IsNarrow};
+ghost use Rattle.cv_io.specs.Counts.{Rose, NoneFell, NoneRose};
+ghost use Rattle.cv_io.specs.Files.{Files};
+ghost use Rattle.cv_app.specs.declared.served.Served.{Served as Answer};
+ghost use Rattle.cv_app.specs.Answers.{Answers, LoadFailed};
+ghost use Rattle.cv_app.specs.Commands.{Check};
+ghost use Rattle.cv_app.specs.Sinks.{IsSettled, Answered, Becomes, PrintsBy, RefusesBy};
+ghost use Rattle.cv_app.specs.Check.{Gives, IsBuilt, IsNotBuilt, HasCleanProgram};
+ghost use Rattle.cv_app.specs.Faults.{LoadRefused, Decides, IsCheckFault, UnlessHindered, HasOneProgram};
+
+use crate::answer::print;
+use crate::fault::{Fault, report};
+use cv_core::Program;
+use cv_io::{Sink, Store, StoreError};
+use cv_check::check_narrow;
+use cv_text::read_narrow;
+use std::alloc::{AllocError, Global};
+
+const FILE_LIMIT: u64 = 1048576;
+
+const CERTIFICATE_LIMIT: u64 = 268435456;
+
+/// Loads the bytes of a name, at most `limit` of them.
+fn load<S: Store>(
+    alloc: Global,
+    store: &mut S,
+    name: &[u8],
+    limit: u64,
+    too_long: Fault,
+) -> Result<Vec<u8>, Fault>
+    ensures given { IfOk result (λ bytes. IfSome (S.content store.old) (λ files. Gives files name.now limit bytes.items)) }
+    ensures within { IfOk result (λ bytes. length bytes.items ≤ limit) }
+    ensures refused { IfErr result (LoadRefused (S.content store.old) name.now limit too_long
+        (S.reading_faults store.old name.now) (S.reading_faults store.new name.now)) }
+    ensures unchanged { S.content store.new ≡ S.content store.old }
+    ensures quiet { result ≢ Err Fault.Read → NoneRose (S.reading_faults store.old) (S.reading_faults store.new) }
+{
+    match store.load(alloc, name, limit) {
+        Ok(bytes) => Ok(bytes),
+        Err(StoreError::Failed) => Err(Fault::Read),
+        Err(StoreError::TooLong) => Err(too_long),
+        Err(StoreError::Memory) => Err(Fault::Memory),
+    }
+}
+
+/// The straight-line program of a file, None where it isn't built.
+fn program_of(alloc: Global, name: &[u8], bytes: &[u8]) -> Result<Option<Program>, AllocError>
+    ensures some { IfOk result (λ read. IfSome read (IsBuilt name.now bytes.now)) }
+    ensures exact { IfOk result (λ read. (p : Tree) → IsBuilt name.now bytes.now p → read ≡ Some p) }
+    ensures none { result ≡ Ok None → IsNotBuilt name.now bytes.now }
+{
+    if name.ends_with(b".c") {
+        return Ok(None);
+    }
+    read_narrow(alloc, bytes)
+}
+
+/// Decides what `check` answers, before anything is written.
+fn decide<S: Store>(alloc: Global, store: &mut S, file: &[u8], cert: &[u8]) -> Result<bool, Fault>
+    ensures checks { IfSome (S.content store.old) (λ files. Decides files file.now cert.now result) }
+    ensures one { IfSome (S.content store.old) (λ files. UnlessHindered result (HasOneProgram files file.now)) }
+    ensures clean { result ≡ Ok true → IfSome (S.content store.old) (λ files. HasCleanProgram files file.now) }
+    ensures faults { IfErr result IsCheckFault }
+    ensures read_fault { result ≡ Err Fault.Read →
+        Rose (S.reading_faults store.old file.now) (S.reading_faults store.new file.now)
+        ⊎ Rose (S.reading_faults store.old cert.now) (S.reading_faults store.new cert.now) }
+    ensures unchanged { S.content store.new ≡ S.content store.old }
+{
+    let bytes = load(alloc, store, file, FILE_LIMIT, Fault::FileLimit)?;
+    let Some(program) = program_of(alloc, file, &bytes)? else {
+        return Err(Fault::NotBuilt { line: 1 });
+    };
+    let text = load(
+        alloc,
+        store,
+        cert,
+        CERTIFICATE_LIMIT,
+        Fault::CertificateLimit,
+    )?;
+    let accepted = check_narrow(alloc, &program, &text)?;
+    Ok(accepted)
+}
+
+/// Checks the certificate `cert` for the file `file`, and prints whether it is accepted.
+pub(crate) fn check<S: Store, O: Sink, E: Sink>(
+    alloc: Global,
+    file: &[u8],
+    cert: &[u8],
+    store: &mut S,
+    out: &mut O,
+    errs: &mut E,
+) -> u8
+    ensures headline { result ≡ 0 → IfSome (S.content store.old) (λ files. HasCleanProgram files file.now) }
+    ensures answered { IsSettled result → Answered (S.content store.old) (Check file.now cert.now) result
+        (O.content out.old) (O.content out.new) (E.content errs.old) (E.content errs.new) (E.faults errs.old) (E.faults errs.new) }
+    ensures exactly { IfSome (S.content store.old) (λ files. (answer : Answer) → Answers (Some files) (Check file.now cert.now) answer →
+        Becomes answer result (O.content out.old) (O.content out.new)) }
+    ensures status { result ≤ 7 }
+    ensures no_usage { result ≢ 2 }
+    ensures read_fault { result ≡ 5 →
+        LoadFailed (Check file.now cert.now) (S.reading_faults store.old) (S.reading_faults store.new) }
+    ensures write_fault { result ≡ 6 → Rose (O.faults out.old) (O.faults out.new) }
+    ensures unchanged { S.content store.new ≡ S.content store.old }
+    ensures out { PrintsBy (Check file.now cert.now) result (O.content out.old) (O.content out.new) }
+    ensures errs { RefusesBy (Check file.now cert.now) result (E.content errs.old) (E.content errs.new) (E.faults errs.old) (E.faults errs.new) }
+{
+    match decide(alloc, store, file, cert) {
+        Ok(true) => print(out, errs, 0, b"accepted\n"),
+        Ok(false) => print(out, errs, 1, b"rejected\n"),
+        Err(fault) => report(alloc, errs, file, fault),
+    }
+}

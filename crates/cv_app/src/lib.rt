@@ -1,0 +1,15 @@
+//! The commands of the program over its devices.
+#![tactic(auto)]
+
+mod answer;
+mod app;
+mod check;
+mod fault;
+mod request;
+mod served;
+#[cfg(test)]
+mod tests;
+
+pub use app::{cssv, serve_words};
+pub use fault::Fault;
+pub use served::Served;
