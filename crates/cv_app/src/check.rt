@@ -15,9 +15,9 @@ ghost use Rattle.cv_app.specs.Faults.{LoadRefused, Decides, IsCheckFault, Unless
 
 use crate::answer::print;
 use crate::fault::{Fault, report};
+use cv_check::check_narrow;
 use cv_core::Program;
 use cv_io::{Sink, Store, StoreError};
-use cv_check::check_narrow;
 use cv_text::read_narrow;
 use std::alloc::{AllocError, Global};
 
