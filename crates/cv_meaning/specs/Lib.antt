@@ -1,6 +1,9 @@
 pub mod Checked
 pub mod Memory
+pub mod Held
+pub mod Look
 pub mod Contract
+pub mod Seen
 pub mod State
 pub mod Step
 pub mod Call
