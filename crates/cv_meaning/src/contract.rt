@@ -11,7 +11,7 @@ use crate::memory::{Body, NamedValue, Ptr, Value, View};
 use crate::objects::Mem;
 use cv_core::{GlobalBody, GlobalDecl, PtrTerm, Term};
 
-fn value_in(vars: &[NamedValue], x: &[u8]) -> Value
+pub(crate) fn value_in(vars: &[NamedValue], x: &[u8]) -> Value
     ensures { result ≡ look vars.now x.now }
 {
     for var in vars {
@@ -29,7 +29,7 @@ fn global_place(globals: &[GlobalDecl], x: &[u8]) -> Option<usize>
 }
 
 /// What the live cell holds to which `w` points.
-fn content(m: &Mem, w: Value) -> Option<Value>
+pub(crate) fn content(m: &Mem, w: Value) -> Option<Value>
     ensures { result ≡ content_of m.now w }
 {
     let Value::Ptr(Ptr::At { object, .. }) = w else {
@@ -45,7 +45,7 @@ fn content(m: &Mem, w: Value) -> Option<Value>
     }
 }
 
-fn named(v: &View, m: &Mem, x: &[u8]) -> Option<Value>
+pub(crate) fn named(v: &View, m: &Mem, x: &[u8]) -> Option<Value>
     ensures { result ≡ named_of (scene v.entry.now) m.now x.now }
 {
     match global_place(v.globals.as_slice(), x) {
@@ -84,7 +84,7 @@ fn as_pointer(v: Option<Value>) -> Option<Ptr>
 
 /// The pointer that a contract names, memory being read in `m`, and under `pre` at entry.
 #[tactic(auto, using(crate::proofs::Terms::pointer_value_pre))]
-fn pointer_value(v: &View, m: &Mem, t: &PtrTerm) -> Option<Ptr>
+pub(crate) fn pointer_value(v: &View, m: &Mem, t: &PtrTerm) -> Option<Ptr>
     ensures { result ≡ pointer_value_of (scene v.entry.now) m.now t.now }
 {
     match t {
@@ -97,14 +97,14 @@ fn pointer_value(v: &View, m: &Mem, t: &PtrTerm) -> Option<Ptr>
 
 /// A place in a live buffer.
 #[derive(Drop)]
-struct Borrowed<'a> {
-    object: u64,
-    offset: u32,
-    bytes: &'a [u8],
+pub(crate) struct Borrowed<'a> {
+    pub(crate) object: u64,
+    pub(crate) offset: u32,
+    pub(crate) bytes: &'a [u8],
 }
 
 /// The place in a live buffer to which `p` points.
-fn spot(m: &Mem, p: Ptr) -> Option<Borrowed<'_>>
+pub(crate) fn spot(m: &Mem, p: Ptr) -> Option<Borrowed<'_>>
     ensures value { seen_spot result ≡ spot_of m.now p }
     ensures short { IfSome result (λ at. length at.bytes.now < 2 ^ 31) }
 {
@@ -167,7 +167,7 @@ fn named_spot<'a>(v: &View, m: &'a Mem, x: &PtrTerm) -> Option<Borrowed<'a>>
 
 /// The number that a contract's term has, memory being read in `m`, and under `pre` at entry.
 #[tactic(auto, using(crate::proofs::Terms::term_value_pre))]
-fn term_in(v: &View, m: &Mem, t: &Term) -> Option<i64>
+pub(crate) fn term_in(v: &View, m: &Mem, t: &Term) -> Option<i64>
     ensures { result ≡ term_value_of (scene v.entry.now) m.now t.now }
 {
     match t {
@@ -195,7 +195,7 @@ fn offset_of(v: &View, m: &Mem, x: &PtrTerm) -> Option<i64>
     Some(i64::from(at.offset))
 }
 
-fn strlen_of(v: &View, m: &Mem, x: &PtrTerm) -> Option<i64>
+pub(crate) fn strlen_of(v: &View, m: &Mem, x: &PtrTerm) -> Option<i64>
     ensures { result ≡ of_spot (scene v.entry.now) m.now x.now text_length_of }
 {
     let at = named_spot(v, m, x)?;

@@ -1,7 +1,10 @@
 //! A small memory, and what its calls answer.
-use crate::{Body, Mem, Permit, Ptr, Value, first_zero, load, shift, store};
-use cv_core::{Bytes, ErrKind, List};
-use std::alloc::Global;
+use crate::{
+    Body, Mem, NamedValue, Part, Permit, Ptr, Value, View, first_zero, holds, load, shift, store,
+    term_value,
+};
+use cv_core::{Atom, Bytes, Contract, ErrKind, List, PtrTerm, Term};
+use std::alloc::{AllocError, Global};
 use std::test::Fail;
 
 /// A buffer of the bytes 1, 0, 2 as object 0, and a cell as object 1.
@@ -78,5 +81,51 @@ fn writes_and_ends(rt: HostRuntime) -> Result<(), Fail> {
     }
     assert_eq!(rt; m.get(1), Some(Value::Int(8)));
     assert_eq!(rt; (m.live(0), m.live(1), m.live(2)), (true, true, false));
+    Ok(())
+}
+
+fn formal(alloc: Global, name: &[u8], value: Value) -> Result<NamedValue, AllocError> {
+    Ok(NamedValue {
+        name: Bytes::from_slice(alloc, name)?,
+        value,
+    })
+}
+
+#[test]
+fn values_terms(rt: HostRuntime) -> Result<(), Fail> {
+    let alloc = rt.alloc();
+    let m = small(alloc)?;
+    let d = formal(alloc, b"d".as_slice(), Value::Ptr(at(1)))?;
+    let n = formal(alloc, b"n".as_slice(), Value::Int(-4))?;
+    let formals = List::from_vec(vec![in alloc; d, n]?);
+    let globals = List::new(alloc);
+    let v = View {
+        at_entry: &m,
+        now: &m,
+        formals: &formals,
+        globals: &globals,
+        answer: None,
+        first: 2,
+    };
+    let name = |x: &[u8]| Bytes::from_slice(alloc, x);
+    let number = Term::Name(name(b"n".as_slice())?);
+    let alloc_d = Term::Alloc(PtrTerm::Name(name(b"d".as_slice())?));
+    let strlen_d = Term::Strlen(PtrTerm::Name(name(b"d".as_slice())?));
+    let alloc_n = Term::Alloc(PtrTerm::Name(name(b"n".as_slice())?));
+    assert_eq!(rt; term_value(&number, &v), Some(-4));
+    assert_eq!(rt; term_value(&alloc_d, &v), Some(2));
+    assert_eq!(rt; term_value(&strlen_d, &v), Some(0));
+    assert_eq!(rt; term_value(&alloc_n, &v), None);
+    assert_eq!(rt; term_value(&Term::Answer, &v), None);
+    let nullt = Atom::Nullt(PtrTerm::Name(name(b"d".as_slice())?));
+    let fresh = Atom::Fresh(PtrTerm::Name(name(b"d".as_slice())?));
+    let c = Contract {
+        listed: List::new(alloc),
+        needs: List::from_vec(vec![in alloc; nullt]?),
+        changes: List::new(alloc),
+        gives: List::from_vec(vec![in alloc; List::from_vec(vec![in alloc; fresh]?)]?),
+    };
+    assert!(rt; holds(&c, Part::Requires, &v));
+    assert!(rt; !holds(&c, Part::Ensures, &v));
     Ok(())
 }
