@@ -4,3 +4,5 @@ pub mod Bounds
 pub mod Worked
 pub mod Accesses
 pub mod Induct
+pub mod Terms
+pub mod Looks

@@ -4,129 +4,130 @@ use Rattle.cv_core.specs.declared.faults.ErrKind.TheVariants as err
 use Rattle.cv_core.specs.declared.program.Item.TheVariants as item
 use Rattle.cv_core.specs.declared.program.PtrTerm.TheVariants as pointer
 use Rattle.cv_meaning.specs.declared.memory.Value.TheVariants as value
+use Rattle.cv_meaning.specs.Contract.{global_fits}
 use Rattle.cv_meaning.specs.Step.{step}
 use Rattle.cv_meaning.specs.Call.{call}
 use Rattle.cv_meaning.specs.Run.{End, Stopped, Error, Returned, run_main, run, run_within, one_step, turn}
 use Rattle.cv_meaning.specs.Worked.{RunsEnd, number_of, output_of, world, quiet, stores_at, reads_behind, returns_local, adds, counts_down, calls_on, stores_literal, hi, stores_global, two_bytes, stores_unasked, loads_null, compares_wild, allocates, echoes, asks, skips}
 
 last_byte_is : number_of (run_main 4 (stores_at (pos 3)) [] [] quiet) ≡ Some (pos 0)
-unfolding run_main run run_within one_step turn step call
+unfolding run_main run run_within one_step turn step call global_fits
 last_byte_is = refl
 
 one_step_short_is : run_main 3 (stores_at (pos 3)) [] [] quiet ≡ Stopped []
-unfolding run_main run run_within one_step turn step call
+unfolding run_main run run_within one_step turn step call global_fits
 one_step_short_is = refl
 
 past_the_end_is : run_main 100 (stores_at (pos 4)) [] [] quiet ≡ Error err.Bounds 0 4 []
-unfolding run_main run run_within one_step turn step call
+unfolding run_main run run_within one_step turn step call global_fits
 past_the_end_is = refl
 
 moved_past_the_end_is : run_main 100 (stores_at (pos 5)) [] [] quiet ≡ Error err.Bounds 0 3 []
-unfolding run_main run run_within one_step turn step call
+unfolding run_main run run_within one_step turn step call global_fits
 moved_past_the_end_is = refl
 
 moved_before_the_start_is : run_main 100 (stores_at (negsuc 0)) [] [] quiet ≡ Error err.Bounds 0 3 []
-unfolding run_main run run_within one_step turn step call
+unfolding run_main run run_within one_step turn step call global_fits
 moved_before_the_start_is = refl
 
 behind_first_zero_is : run_main 100 reads_behind [] [] quiet ≡ Error err.Terminator 0 6 []
-unfolding run_main run run_within one_step turn step call
+unfolding run_main run run_within one_step turn step call global_fits
 behind_first_zero_is = refl
 
 dead_result_is : run_main 100 returns_local [] [] quiet ≡ Error err.Dead 0 3 []
-unfolding run_main run run_within one_step turn step call
+unfolding run_main run run_within one_step turn step call global_fits
 dead_result_is = refl
 
 nine_is : number_of (run_main 100 (adds (pos 1)) (value.Int (pos 9) ∷ []) [] quiet) ≡ Some (pos 10)
-unfolding run_main run run_within one_step turn step call
+unfolding run_main run run_within one_step turn step call global_fits
 nine_is = refl
 
 ten_is : run_main 100 (adds (pos 1)) (value.Int (pos 10) ∷ []) [] quiet ≡ Error err.Requires 0 1 []
-unfolding run_main run run_within one_step turn step call
+unfolding run_main run run_within one_step turn step call global_fits
 ten_is = refl
 
 ten_without_steps_is : run_main 0 (adds (pos 1)) (value.Int (pos 10) ∷ []) [] quiet ≡ Error err.Requires 0 1 []
-unfolding run_main run run_within one_step turn step call
+unfolding run_main run run_within one_step turn step call global_fits
 ten_without_steps_is = refl
 
 broken_ensures_is : run_main 100 (adds (pos 2)) (value.Int (pos 9) ∷ []) [] quiet ≡ Error err.Ensures 0 4 []
-unfolding run_main run run_within one_step turn step call
+unfolding run_main run run_within one_step turn step call global_fits
 broken_ensures_is = refl
 
 down_is : number_of (run_main 100 counts_down [] [] quiet) ≡ Some (pos 0)
-unfolding run_main run run_within one_step turn step call
+unfolding run_main run run_within one_step turn step call global_fits
 down_is = refl
 
 down_in_24_is : number_of (run_main 24 counts_down [] [] quiet) ≡ Some (pos 0)
-unfolding run_main run run_within one_step turn step call
+unfolding run_main run run_within one_step turn step call global_fits
 down_in_24_is = refl
 
 down_in_23_is : run_main 23 counts_down [] [] quiet ≡ Stopped []
-unfolding run_main run run_within one_step turn step call
+unfolding run_main run run_within one_step turn step call global_fits
 down_in_23_is = refl
 
 stopped_recursion_is : run_main 1000 calls_on [] [] quiet ≡ Stopped []
-unfolding run_main run run_within one_step turn step call
+unfolding run_main run run_within one_step turn step call global_fits
 stopped_recursion_is = refl
 
 literal_stored_to_is : run_main 100 stores_literal [] (hi ∷ []) quiet ≡ Error err.Literal 0 3 []
-unfolding run_main run run_within one_step turn step call
+unfolding run_main run run_within one_step turn step call global_fits
 literal_stored_to_is = refl
 
 global_not_modified_is : run_main 100 (stores_global []) [] (two_bytes ∷ []) quiet ≡ Error err.Modifies 0 3 []
-unfolding run_main run run_within one_step turn step call
+unfolding run_main run run_within one_step turn step call global_fits
 global_not_modified_is = refl
 
 global_modified_is : number_of (run_main 100 (stores_global (item.Body (pointer.Name (codes "g")) ∷ [])) [] (two_bytes ∷ []) quiet) ≡ Some (pos 7)
-unfolding run_main run run_within one_step turn step call
+unfolding run_main run run_within one_step turn step call global_fits
 global_modified_is = refl
 
 argument_not_modified_is : run_main 100 stores_unasked [] [] quiet ≡ Error err.Modifies 0 3 []
-unfolding run_main run run_within one_step turn step call
+unfolding run_main run run_within one_step turn step call global_fits
 argument_not_modified_is = refl
 
 null_load_is : run_main 100 loads_null [] [] quiet ≡ Error err.Null 0 3 []
-unfolding run_main run run_within one_step turn step call
+unfolding run_main run run_within one_step turn step call global_fits
 null_load_is = refl
 
 wild_is_null_is : number_of (run_main 9 compares_wild [] [] (world [] (pos 7 ∷ []) [] [])) ≡ Some (pos 2)
-unfolding run_main run run_within one_step turn step call
+unfolding run_main run run_within one_step turn step call global_fits
 wild_is_null_is = refl
 
 wild_is_not_null_is : number_of (run_main 9 compares_wild [] [] quiet) ≡ Some (pos 1)
-unfolding run_main run run_within one_step turn step call
+unfolding run_main run run_within one_step turn step call global_fits
 wild_is_not_null_is = refl
 
 malloc_answers_1_is : number_of (run_main 9 allocates [] [] (world [] [] (true ∷ []) [])) ≡ Some (pos 0)
-unfolding run_main run run_within one_step turn step call
+unfolding run_main run run_within one_step turn step call global_fits
 malloc_answers_1_is = refl
 
 malloc_answers_0_is : run_main 9 allocates [] [] (world [] [] (false ∷ []) []) ≡ Error err.Null 0 4 []
-unfolding run_main run run_within one_step turn step call
+unfolding run_main run run_within one_step turn step call global_fits
 malloc_answers_0_is = refl
 
 echo_writes_is : output_of (run_main 9 echoes [] [] (world (65 ∷ []) [] [] [])) ≡ 65 ∷ 255 ∷ []
-unfolding run_main run run_within one_step turn step call
+unfolding run_main run run_within one_step turn step call global_fits
 echo_writes_is = refl
 
 input_ends_is : number_of (run_main 9 echoes [] [] (world (65 ∷ []) [] [] [])) ≡ Some (negsuc 0)
-unfolding run_main run run_within one_step turn step call
+unfolding run_main run run_within one_step turn step call global_fits
 input_ends_is = refl
 
 extern_in_range_is : number_of (run_main 9 asks [] [] (world [] [] [] (pos 2 ∷ []))) ≡ Some (pos 2)
-unfolding run_main run run_within one_step turn step call
+unfolding run_main run run_within one_step turn step call global_fits
 extern_in_range_is = refl
 
 extern_out_of_range_is : number_of (run_main 9 asks [] [] (world [] [] [] (pos 9 ∷ []))) ≡ Some (negsuc 2)
-unfolding run_main run run_within one_step turn step call
+unfolding run_main run run_within one_step turn step call global_fits
 extern_out_of_range_is = refl
 
 enough_room_is : number_of (run_main 100 (skips 5) [] [] quiet) ≡ Some (pos 0)
-unfolding run_main run run_within one_step turn step call
+unfolding run_main run run_within one_step turn step call global_fits
 enough_room_is = refl
 
 too_little_room_is : run_main 100 (skips 4) [] [] quiet ≡ Error err.Requires 0 16 []
-unfolding run_main run run_within one_step turn step call
+unfolding run_main run run_within one_step turn step call global_fits
 too_little_room_is = refl
 
 pub runs_end : RunsEnd

@@ -9,6 +9,7 @@ use Rattle.cv_core.specs.declared.faults.ErrKind.{ErrKind}
 use Rattle.cv_core.specs.declared.faults.ErrKind.TheVariants as err
 use Rattle.cv_core.specs.declared.program.Program.{Program}
 use Rattle.cv_core.specs.declared.program.Proc.{Proc}
+use Rattle.cv_core.specs.declared.program.Formal.{Formal}
 use Rattle.cv_core.specs.declared.program.ProcBody.{ProcBody}
 use Rattle.cv_core.specs.declared.program.Contract.{Contract}
 use Rattle.cv_core.specs.declared.program.Atom.{Atom}
@@ -101,7 +102,7 @@ entered P i g args m =
     }
 
 abbrev pub may_enter : Program → Frame → Bool
-may_enter P g = requires_hold (scene_of P g g.entry None) g.proc.formals g.proc.contract
+may_enter P g = requires_hold (scene_of P g g.entry None) (map (λ (f : Formal). f.name) g.proc.formals) g.proc.contract
 
 -- the objects of a call's modifies items: no literal among them, and then each one that the caller may change
 abbrev pub permitted : {A : Type 0} → Permit → List ℕ → Checked A → Checked A

@@ -1,6 +1,11 @@
 pub mod Checked
 pub mod Memory
+pub mod Held
+pub mod Look
 pub mod Contract
+pub mod Few
+pub mod Seen
+pub mod Parts
 pub mod State
 pub mod Step
 pub mod Call

@@ -1,6 +1,7 @@
 -- A memory is the list of its objects, in the order of making.
-use Rattle.std.specs.Prelude.{ℕ, zero, suc, ◌+◌, ◌-◌, ◌%◌, Bool, true, false, not, ◌&&◌, ◌||◌, ◌==◌, nat_le, nat_lt, List, [], ◌∷◌, length, slice_get, slice_set, slice_index, Option, Some, None, Ok, Err, if◌then◌else◌, ℤ, pos, negsuc, ◌+ℤ◌, ◌-ℤ◌}
+use Rattle.std.specs.Prelude.{ℕ, ◌<◌, ◌^◌, zero, suc, ◌+◌, ◌-◌, ◌%◌, Bool, true, false, not, ◌&&◌, ◌||◌, ◌==◌, nat_le, nat_lt, List, [], ◌∷◌, length, slice_get, slice_set, slice_index, Option, Some, None, Ok, Err, if◌then◌else◌, ℤ, pos, negsuc, ◌+ℤ◌, ◌-ℤ◌}
 use Rattle.std.specs.List.{list_any, position_or_len}
+use Rattle.std.specs.Option.{option_and_then}
 use Rattle.cv_core.specs.declared.faults.ErrKind.{ErrKind}
 use Rattle.cv_core.specs.declared.faults.ErrKind.TheVariants as err
 use Rattle.cv_meaning.specs.declared.memory.Object.{Object}
@@ -120,3 +121,53 @@ abbrev pub diff : Memory → Ptr → Ptr → Checked ℤ
 diff m p q =
     place m p >>= λ a. place m q >>= λ b.
     unless (a.object == b.object) err.Bounds (Ok (pos a.offset -ℤ pos b.offset))
+
+-- ---- what is asked of a memory by the number of an object
+
+abbrev pub first_zero_in : Body → Option ℕ
+first_zero_in (Buffer bytes) = Some (first_zero bytes)
+first_zero_in (Cell v) = None
+
+abbrev pub body_held : Option Object → Option Body
+body_held None = None
+body_held (Some x) = Some x.body
+
+-- None where there is no such object
+abbrev pub body_at : Memory → ℕ → Option Body
+body_at m o = body_held (slice_get m o)
+
+-- None where the object is no buffer
+abbrev pub first_zero_of : Memory → ℕ → Option ℕ
+first_zero_of m o = option_and_then first_zero_in (body_at m o)
+
+abbrev pub cell_in : Body → Option Value
+cell_in (Buffer bytes) = None
+cell_in (Cell v) = Some v
+
+abbrev pub cell_held : Option Object → Option Value
+cell_held None = None
+cell_held (Some x) = cell_in x.body
+
+-- None where the object is no cell
+abbrev pub cell_at : Memory → ℕ → Option Value
+cell_at m o = cell_held (slice_get m o)
+
+abbrev pub site_held : Option Object → Option ℕ
+site_held None = None
+site_held (Some x) = Some x.site
+
+-- None where there is no such object
+abbrev pub site_at : Memory → ℕ → Option ℕ
+site_at m o = site_held (slice_get m o)
+
+abbrev pub bytes_held : Option Object → List ℕ
+bytes_held None = []
+bytes_held (Some x) = bytes_of x.body
+
+-- the bytes of an object, none where it is no buffer
+abbrev pub bytes_at : Memory → ℕ → List ℕ
+bytes_at m o = bytes_held (slice_get m o)
+
+-- a buffer has at most 2147483647 bytes
+abbrev pub IsShort : Body → Type 0
+IsShort b = length (bytes_of b) < 2 ^ 31

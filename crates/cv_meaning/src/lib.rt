@@ -2,8 +2,19 @@
 //! the types of which they speak.
 #![tactic(auto)]
 
+mod access;
+mod clauses;
+mod contract;
 mod laws;
 mod memory;
+mod objects;
 
+pub use access::{first_zero, load, shift, store};
+pub use clauses::{Part, holds};
+pub use contract::term_value;
 pub use laws::{bound_law, end_law, step_by_step_law, worked_runs};
-pub use memory::{Body, Mem, NamedValue, Object, Permit, Ptr, Value, View, World};
+pub use memory::{Body, NamedValue, Object, Permit, Ptr, Value, View, World};
+pub use objects::Mem;
+
+#[cfg(test)]
+mod tests;
