@@ -11,3 +11,6 @@ mod walk;
 
 pub use check::closed;
 pub use place::Place;
+
+#[cfg(test)]
+mod tests;
