@@ -1,0 +1,4 @@
+pub mod Lacking
+pub mod Lists
+pub mod Missed
+pub mod Walked

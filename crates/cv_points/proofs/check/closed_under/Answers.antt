@@ -1,0 +1,15 @@
+use Rattle.std.proofs.Common.{ℕ, ◌≤◌, sym, subst, ◌∙◌, below_more, length}
+use Rattle.cv_points.specs.Closed.{HoldsAt}
+use Rattle.cv_points.proofs.Lacking.{each_number, get-past, none_some}
+use Rattle.cv_points.proofs.check.closed_under.Goals as goal
+
+pub loop-proc-preserved : goal.loop-proc-preserved
+loop-proc-preserved c i k lt =
+    below_more (λ i. (k : ℕ) → HoldsAt c.args.p.now c.args.sets.now i k) c.loop-proc.proc (λ i lt k. c.loop-proc.invariant i k lt) c.in-None.ensures i lt k
+
+pub returns : goal.returns
+returns c i k =
+    let ge : length c.args.p.now.procs ≤ c.loop-proc.proc = subst (λ n. n ≤ c.loop-proc.proc) c.proc_count-proc-end.ensures c.loop-proc-test.false in
+    each_number (λ i. (k : ℕ) → HoldsAt c.args.p.now c.args.sets.now i k) (length c.args.p.now.procs) c.loop-proc.proc ge
+    (λ n h k f e. absurd (none_some f (sym (get-past c.args.p.now.procs n h) ∙ e)))
+    (λ i lt k. c.loop-proc.invariant i k lt) i k

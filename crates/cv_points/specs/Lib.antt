@@ -1,0 +1,4 @@
+pub mod Holders
+pub mod Closed
+pub mod Walks
+pub mod Missing

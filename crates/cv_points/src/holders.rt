@@ -1,0 +1,299 @@
+//! The places of the sets of a family, and the sites of objects. Sums stop at the greatest number of a word, which
+//! no set and no site can have.
+ghost use Rattle.std.specs.Prelude.{◌≡◌, ◌+◌, ◌≤◌, bytes_eq, codes, length, map, slice_get, sum, take, ℕ};
+ghost use Rattle.std.specs.List.{count_by, filter};
+ghost use Rattle.std.specs.Option.{option_map};
+ghost use Rattle.cv_core.specs.Names.{is_malloc as malloc_form, is_object as object, local_site as local_site_of, malloc_site as malloc_site_of, mallocs_in, objects_of, place_of, stmts_of as stmts_in};
+ghost use Rattle.cv_points.specs.Holders.{cell_place as place_of_cell, first_holder as first_holder_of, gives_pointer, holder_count as count_of, is_pointer_kind as pointer_kind, is_pointer_local as pointer_local, place_from, pointer_count, result_number as number_of_result, site_of as site_of_name, variable_number as number_of};
+ghost use Rattle.cv_points.specs.Walks.{word};
+
+use crate::walk::{cell_number, is_object, locals_of};
+use cv_core::{
+    Form, Formal, GlobalDecl, Literal, Local, LocalBody, Proc, Program, ResultKind, Stmt, VarKind,
+};
+
+fn is_pointer_kind(kind: VarKind) -> bool
+    ensures { result ≡ pointer_kind kind }
+{
+    matches!(kind, VarKind::Ptr | VarKind::Pptr | VarKind::Iptr)
+}
+
+fn is_pointer_local(body: LocalBody) -> bool
+    ensures { result ≡ pointer_local body }
+{
+    match body {
+        LocalBody::Var(kind) => is_pointer_kind(kind),
+        LocalBody::Buffer(_) => false,
+        LocalBody::PointerCell => false,
+        LocalBody::IntCell => false,
+    }
+}
+
+/// How many of the formals are pointers.
+fn pointer_formals(formals: &[Formal]) -> usize
+    ensures { result ≡ length (filter (λ x. pointer_kind x.kind) formals.now) }
+{
+    formals.iter().filter(|x| is_pointer_kind(x.kind)).count()
+}
+
+/// How many of the locals are pointers.
+fn pointer_locals(locals: &[Local]) -> usize
+    ensures { result ≡ length (filter (λ l. pointer_local l.body) locals.now) }
+{
+    locals.iter().filter(|l| is_pointer_local(l.body)).count()
+}
+
+/// The number of the first of the pointer formals that has the name.
+fn formal_number(formals: &[Formal], name: &[u8]) -> Option<usize>
+    ensures { result ≡ place_of (λ x. x.name) name.now (filter (λ x. pointer_kind x.kind) formals.now) }
+{
+    formals
+        .iter()
+        .filter(|x| is_pointer_kind(x.kind))
+        .position(|x| x.name.as_slice() == name)
+}
+
+/// The number of the first of the pointer locals that has the name.
+fn local_number(locals: &[Local], name: &[u8]) -> Option<usize>
+    ensures { result ≡ place_of (λ l. l.name) name.now (filter (λ l. pointer_local l.body) locals.now) }
+{
+    locals
+        .iter()
+        .filter(|l| is_pointer_local(l.body))
+        .position(|l| l.name.as_slice() == name)
+}
+
+/// The number of the first of the objects that has the name.
+fn object_number(locals: &[Local], name: &[u8]) -> Option<usize>
+    ensures { result ≡ place_of (λ l. l.name) name.now (filter (λ l. object l.body) locals.now) }
+{
+    locals
+        .iter()
+        .filter(|l| is_object(&l.body))
+        .position(|l| l.name.as_slice() == name)
+}
+
+/// The number of the first global that has the name.
+fn global_number(globals: &[GlobalDecl], name: &[u8]) -> Option<usize>
+    ensures { result ≡ place_of (λ g. g.name) name.now globals.now }
+{
+    globals.iter().position(|g| g.name.as_slice() == name)
+}
+
+/// The number of the first literal that has the name.
+fn literal_number(literals: &[Literal], name: &[u8]) -> Option<usize>
+    ensures { result ≡ place_of (λ l. l.name) name.now literals.now }
+{
+    literals.iter().position(|l| l.name.as_slice() == name)
+}
+
+/// The number of the first procedure that has the name.
+pub(crate) fn proc_number(procs: &[Proc], name: &[u8]) -> Option<usize>
+    ensures { result ≡ place_of (λ f. f.name) name.now procs.now }
+{
+    procs.iter().position(|f| f.name.as_slice() == name)
+}
+
+/// The number of a pointer variable among those of its procedure.
+fn variable_number(f: &Proc, name: &[u8]) -> Option<usize>
+    ensures { result ≡ option_map word (number_of f.now name.now) }
+{
+    let formals = f.formals.as_slice();
+    match formal_number(formals, name) {
+        Some(number) => Some(number),
+        None => match local_number(locals_of(f), name) {
+            Some(number) => Some(pointer_formals(formals).saturating_add(number)),
+            None => None,
+        },
+    }
+}
+
+/// The place of a pointer variable, where `first` is that of the procedure's first holder.
+pub(crate) fn variable_place(f: &Proc, first: usize, name: &[u8]) -> Option<usize>
+    ensures { (start : ℕ) → first ≡ word start → result ≡ option_map word (place_from start (number_of f.now name.now)) }
+{
+    match variable_number(f, name) {
+        Some(number) => Some(first.saturating_add(number)),
+        None => None,
+    }
+}
+
+fn is_pointer_result(kind: ResultKind) -> bool
+    ensures { result ≡ gives_pointer kind }
+{
+    matches!(kind, ResultKind::Ptr)
+}
+
+/// How many pointer variables a procedure has.
+fn pointers(f: &Proc) -> usize
+    ensures { result ≡ word (pointer_count f.now) }
+{
+    pointer_formals(f.formals.as_slice()).saturating_add(pointer_locals(locals_of(f)))
+}
+
+/// The place of the pointer result, where `first` is that of the procedure's first holder.
+pub(crate) fn result_place(f: &Proc, first: usize) -> Option<usize>
+    ensures { (start : ℕ) → first ≡ word start → result ≡ option_map word (place_from start (number_of_result f.now)) }
+{
+    if is_pointer_result(f.answer) {
+        Some(first.saturating_add(pointers(f)))
+    } else {
+        None
+    }
+}
+
+/// How many holders a procedure has.
+fn holder_count(f: &Proc) -> usize
+    ensures { result ≡ word (count_of f.now) }
+{
+    match &f.body {
+        None => 0,
+        Some(_) => pointers(f).saturating_add(usize::from(is_pointer_result(f.answer))),
+    }
+}
+
+/// The place of the first holder of the procedure of this number.
+pub(crate) fn first_holder(p: &Program, proc: usize) -> usize
+    requires { proc ≤ length p.now.procs }
+    ensures { result ≡ word (first_holder_of p.now proc) }
+{
+    let mut total: usize = 0;
+    for f in &p.procs.as_slice()[..proc] {
+        total = total.saturating_add(holder_count(f));
+    }
+    total
+}
+
+fn proc_count(p: &Program) -> usize
+    ensures { result ≡ length p.now.procs }
+{
+    p.procs.len()
+}
+
+/// The place of the set of the pointer cell at a site, None where no pointer cell has it.
+pub(crate) fn cell_place(p: &Program, site: usize) -> Option<usize>
+    ensures { result ≡ option_map word (place_of_cell p.now site) }
+{
+    if site == 0 {
+        return None;
+    }
+    match cell_number(p, site - 1) {
+        Some(number) => Some(first_holder(p, proc_count(p)).saturating_add(number)),
+        None => None,
+    }
+}
+
+/// How many objects a procedure makes as it is entered.
+fn object_count(f: &Proc) -> usize
+    ensures { result ≡ length (objects_of f.now) }
+{
+    locals_of(f).iter().filter(|l| is_object(&l.body)).count()
+}
+
+/// The site of the first object of the procedure of this number.
+fn local_site(p: &Program, proc: usize) -> usize
+    requires { proc ≤ length p.now.procs }
+    ensures { result ≡ word (local_site_of p.now proc) }
+{
+    let mut total: usize = 0;
+    for f in &p.procs.as_slice()[..proc] {
+        total = total.saturating_add(object_count(f));
+    }
+    p.globals
+        .len()
+        .saturating_add(p.literals.len())
+        .saturating_add(1)
+        .saturating_add(total)
+}
+
+/// How many calls of malloc stand among statements.
+fn malloc_count(stmts: &[Stmt]) -> usize
+    ensures { result ≡ count_by (λ s. malloc_form s.form) stmts.now }
+{
+    let mut total: usize = 0;
+    for s in stmts {
+        total = total.saturating_add(usize::from(is_malloc(&s.form)));
+    }
+    total
+}
+
+fn is_malloc(form: &Form) -> bool
+    ensures { result ≡ malloc_form form.now }
+{
+    match form {
+        Form::Call { f, .. } => is_malloc_name(f.as_slice()),
+        _ => false,
+    }
+}
+
+/// Whether a name is that of the built-in malloc.
+pub(crate) fn is_malloc_name(name: &[u8]) -> bool
+    ensures { result ≡ bytes_eq name.now (codes "malloc") }
+{
+    name == b"malloc".as_slice()
+}
+
+/// The statements of a procedure; none without a body.
+pub(crate) fn stmts_of(f: &Proc) -> &[Stmt]
+    ensures { result.now ≡ stmts_in f.now.body }
+{
+    match &f.body {
+        None => &[],
+        Some(body) => body.stmts.as_slice(),
+    }
+}
+
+fn proc_mallocs(f: &Proc) -> usize
+    ensures { result ≡ mallocs_in (stmts_in f.now.body) }
+{
+    malloc_count(stmts_of(f))
+}
+
+/// How many calls of malloc stand in the first procedures, as many as `proc`.
+fn earlier_mallocs(p: &Program, proc: usize) -> usize
+    requires { proc ≤ length p.now.procs }
+    ensures { result ≡ word (sum (map (λ g. mallocs_in (stmts_in g.body)) (take proc p.now.procs))) }
+{
+    let mut total: usize = 0;
+    for f in &p.procs.as_slice()[..proc] {
+        total = total.saturating_add(proc_mallocs(f));
+    }
+    total
+}
+
+/// How many calls of malloc stand before a statement.
+fn mallocs_before(f: &Proc, statement: usize) -> usize
+    requires { statement ≤ length (stmts_in f.now.body) }
+    ensures { result ≡ mallocs_in (take statement (stmts_in f.now.body)) }
+{
+    malloc_count(&stmts_of(f)[..statement])
+}
+
+/// The site of the call of malloc at a statement.
+pub(crate) fn malloc_site(p: &Program, proc: usize, f: &Proc, statement: usize) -> usize
+    requires here { slice_get p.now.procs proc ≡ Some f.now }
+    requires there { statement ≤ length (stmts_in f.now.body) }
+    ensures { result ≡ word (malloc_site_of p.now proc statement) }
+{
+    let before = mallocs_before(f, statement);
+    local_site(p, proc_count(p))
+        .saturating_add(earlier_mallocs(p, proc))
+        .saturating_add(before)
+}
+
+/// The site of the object that a name stands for in a procedure: its own objects, then the globals and literals.
+pub(crate) fn site_of(p: &Program, proc: usize, f: &Proc, name: &[u8]) -> Option<usize>
+    requires { proc ≤ length p.now.procs }
+    ensures { result ≡ option_map word (site_of_name p.now proc f.now name.now) }
+{
+    if let Some(number) = object_number(locals_of(f), name) {
+        return Some(local_site(p, proc).saturating_add(number));
+    }
+    match global_number(p.globals.as_slice(), name) {
+        Some(number) => Some(number.saturating_add(1)),
+        None => match literal_number(p.literals.as_slice(), name) {
+            Some(number) => Some(p.globals.len().saturating_add(1).saturating_add(number)),
+            None => None,
+        },
+    }
+}

@@ -1,0 +1,16 @@
+//! Points-to families after Andersen: whether a family of site sets is closed under the rules of a program's statements.
+#![tactic(auto)]
+
+mod check;
+mod holders;
+mod missing;
+mod place;
+mod rules;
+mod statements;
+mod walk;
+
+pub use check::closed;
+pub use place::Place;
+
+#[cfg(test)]
+mod tests;

@@ -1,0 +1,194 @@
+//! What the statements of a program ask of a family and the family lacks.
+ghost use Rattle.std.specs.Prelude.{◌≡◌, ◌<◌, ◌≤◌, ◌^◌, IsTrue, MatchOption, Some, bytes_eq, codes, length, slice_get, ℕ};
+ghost use Rattle.std.specs.Option.{option_copied};
+ghost use Rattle.cv_core.specs.Names.{stmts_of as stmts_in};
+ghost use Rattle.cv_points.specs.Closed.{HoldsIn, is_start as is_start_of, MaybeHolds, StatementHolds, Starts, form_rule as form_rule_of, formal_rule as formal_rule_of, global_rule as global_rule_of};
+ghost use Rattle.cv_points.specs.Holders.{first_holder as first_holder_of};
+ghost use Rattle.cv_points.specs.Missing.{Lacks};
+ghost use Rattle.cv_points.specs.Walks.{word};
+
+use crate::missing::{Missing, missing_by};
+use crate::rules::{argument_count, form_rule, formal_rule, global_rule};
+use cv_core::{Form, List, Proc, Program, Stmt};
+
+/// What the rule of that number of a statement asks for.
+fn missing_by_number(
+    p: &Program,
+    sets: &[List<u32>],
+    proc: usize,
+    first: usize,
+    f: &Proc,
+    statement: usize,
+    form: &Form,
+    number: usize,
+) -> Option<Missing>
+    requires counted { length sets.now < 2 ^ 64 }
+    requires start { first ≡ word (first_holder_of p.now proc) }
+    requires here { slice_get p.now.procs proc ≡ Some f.now }
+    requires among { proc ≤ length p.now.procs }
+    requires there { statement ≤ length (stmts_in f.now.body) }
+    ensures { MatchOption result (MaybeHolds p.now sets.now (form_rule_of p.now proc f.now statement form.now number)) (λ m. Lacks sets.now (λ R. MaybeHolds p.now R (form_rule_of p.now proc f.now statement form.now number)) m.to m.site) }
+{
+    missing_by(
+        p,
+        sets,
+        form_rule(p, proc, first, f, statement, form, number),
+    )
+}
+
+/// What a statement asks for by its own rules.
+fn missing_in_form(
+    p: &Program,
+    sets: &[List<u32>],
+    proc: usize,
+    first: usize,
+    f: &Proc,
+    statement: usize,
+    form: &Form,
+) -> Option<Missing>
+    requires counted { length sets.now < 2 ^ 64 }
+    requires start { first ≡ word (first_holder_of p.now proc) }
+    requires here { slice_get p.now.procs proc ≡ Some f.now }
+    requires among { proc ≤ length p.now.procs }
+    requires there { statement ≤ length (stmts_in f.now.body) }
+    ensures { MatchOption result ((n : ℕ) → MaybeHolds p.now sets.now (form_rule_of p.now proc f.now statement form.now n)) (λ m. Lacks sets.now (λ R. (n : ℕ) → MaybeHolds p.now R (form_rule_of p.now proc f.now statement form.now n)) m.to m.site) }
+{
+    match missing_by_number(p, sets, proc, first, f, statement, form, 0) {
+        None => {}
+        Some(missing) => return Some(missing),
+    }
+    for number in 0..argument_count(form) {
+        match missing_by_number(p, sets, proc, first, f, statement, form, number + 1) {
+            None => {}
+            Some(missing) => return Some(missing),
+        }
+    }
+    None
+}
+
+/// What the start asks for in the sets of main's formals.
+fn missing_in_formals(
+    p: &Program,
+    sets: &[List<u32>],
+    proc: usize,
+    first: usize,
+    f: &Proc,
+) -> Option<Missing>
+    requires counted { length sets.now < 2 ^ 64 }
+    requires start { first ≡ word (first_holder_of p.now proc) }
+    ensures { MatchOption result ((n : ℕ) → MaybeHolds p.now sets.now (formal_rule_of (first_holder_of p.now proc) f.now (slice_get f.now.formals n))) (λ m. Lacks sets.now (λ R. (n : ℕ) → MaybeHolds p.now R (formal_rule_of (first_holder_of p.now proc) f.now (slice_get f.now.formals n))) m.to m.site) }
+{
+    for number in 0..f.formals.len() {
+        match missing_by(p, sets, formal_rule(f, first, f.formals.get(number))) {
+            None => {}
+            Some(missing) => return Some(missing),
+        }
+    }
+    None
+}
+
+fn global_count(p: &Program) -> usize
+    ensures { result ≡ length p.now.globals }
+{
+    p.globals.len()
+}
+
+/// What the start asks for in the sets of pointer globals.
+fn missing_in_globals(p: &Program, sets: &[List<u32>]) -> Option<Missing>
+    requires { length sets.now < 2 ^ 64 }
+    ensures { MatchOption result ((n : ℕ) → MaybeHolds p.now sets.now (global_rule_of p.now n)) (λ m. Lacks sets.now (λ R. (n : ℕ) → MaybeHolds p.now R (global_rule_of p.now n)) m.to m.site) }
+{
+    for number in 0..global_count(p) {
+        match missing_by(p, sets, global_rule(p, number)) {
+            None => {}
+            Some(missing) => return Some(missing),
+        }
+    }
+    None
+}
+
+/// What the start asks for.
+fn missing_at_start(
+    p: &Program,
+    sets: &[List<u32>],
+    proc: usize,
+    first: usize,
+    f: &Proc,
+) -> Option<Missing>
+    requires counted { length sets.now < 2 ^ 64 }
+    requires start { first ≡ word (first_holder_of p.now proc) }
+    ensures { MatchOption result (Starts p.now sets.now proc f.now) (λ m. Lacks sets.now (λ R. Starts p.now R proc f.now) m.to m.site) }
+{
+    match missing_in_formals(p, sets, proc, first, f) {
+        None => missing_in_globals(p, sets),
+        Some(missing) => Some(missing),
+    }
+}
+
+/// Whether a statement is the first one of main.
+fn is_start(f: &Proc, statement: usize) -> bool
+    ensures { result ≡ is_start_of f.now statement }
+{
+    statement == 0 && f.name.as_slice() == b"main".as_slice()
+}
+
+/// What a statement asks for.
+fn missing_at(
+    p: &Program,
+    sets: &[List<u32>],
+    proc: usize,
+    first: usize,
+    f: &Proc,
+    statement: usize,
+    form: &Form,
+) -> Option<Missing>
+    requires counted { length sets.now < 2 ^ 64 }
+    requires start { first ≡ word (first_holder_of p.now proc) }
+    requires here { slice_get p.now.procs proc ≡ Some f.now }
+    requires among { proc ≤ length p.now.procs }
+    requires there { statement ≤ length (stmts_in f.now.body) }
+    ensures { MatchOption result (StatementHolds p.now sets.now proc f.now statement form.now) (λ m. Lacks sets.now (λ R. StatementHolds p.now R proc f.now statement form.now) m.to m.site) }
+{
+    match missing_in_form(p, sets, proc, first, f, statement, form) {
+        None => {
+            if is_start(f, statement) {
+                missing_at_start(p, sets, proc, first, f)
+            } else {
+                None
+            }
+        }
+        Some(missing) => Some(missing),
+    }
+}
+
+/// The statement of this number.
+fn statement_at(f: &Proc, statement: usize) -> Option<&Stmt>
+    ensures { option_copied result ≡ slice_get (stmts_in f.now.body) statement }
+{
+    match &f.body {
+        None => None,
+        Some(body) => body.stmts.get(statement),
+    }
+}
+
+/// What the statement of this number asks for.
+pub(crate) fn missing_in_statement(
+    p: &Program,
+    sets: &[List<u32>],
+    proc: usize,
+    first: usize,
+    f: &Proc,
+    statement: usize,
+) -> Option<Missing>
+    requires counted { length sets.now < 2 ^ 64 }
+    requires start { first ≡ word (first_holder_of p.now proc) }
+    requires here { slice_get p.now.procs proc ≡ Some f.now }
+    requires among { proc ≤ length p.now.procs }
+    requires there { statement ≤ length (stmts_in f.now.body) }
+    ensures { MatchOption result (HoldsIn p.now sets.now proc f.now statement) (λ m. Lacks sets.now (λ R. HoldsIn p.now R proc f.now statement) m.to m.site) }
+{
+    match statement_at(f, statement) {
+        None => None,
+        Some(s) => missing_at(p, sets, proc, first, f, statement, &s.form),
+    }
+}

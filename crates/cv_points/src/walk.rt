@@ -1,0 +1,162 @@
+//! The walk over the objects of a program to one that has a given number.
+ghost use Rattle.std.specs.Prelude.{◌≡◌, ◌+◌, ◌<◌, ◌≤◌, ◌^◌, length, map, Bool, List as Items};
+ghost use Rattle.std.specs.List.{filter, flat_map};
+ghost use Rattle.cv_core.specs.Names.{is_object as object, locals_of as locals_in, objects_of};
+ghost use Rattle.cv_points.specs.Holders.{cell_number as number_of_cell, cells, global_cells, object_cells, is_pointer_cell as pointer_cell, is_pointer_global as pointer_global};
+ghost use Rattle.cv_points.specs.Walks.{walk, IsShorter};
+
+use cv_core::{GlobalBody, GlobalDecl, Local, LocalBody, Proc, Program};
+
+/// Where a walk over a list of objects ended.
+#[derive(Clone, Copy, PartialEq, Eq, Debug)]
+pub(crate) enum Walk {
+    /// At the object: its number among the pointer cells, None where it is no pointer cell.
+    Found(Option<usize>),
+    /// Past the list: `skip` objects are still to be skipped, and `seen` pointer cells stood before.
+    Past { skip: usize, seen: usize },
+}
+
+pub(crate) fn is_pointer_global(body: &GlobalBody) -> bool
+    ensures { result ≡ pointer_global body.now }
+{
+    matches!(body, GlobalBody::Pointer)
+}
+
+pub(crate) fn is_pointer_cell(body: &LocalBody) -> bool
+    ensures { result ≡ pointer_cell body.now }
+{
+    matches!(body, LocalBody::PointerCell)
+}
+
+pub(crate) fn is_object(body: &LocalBody) -> bool
+    ensures { result ≡ object body.now }
+{
+    !matches!(body, LocalBody::Var(_))
+}
+
+/// Walks over the globals.
+pub(crate) fn walk_globals(globals: &[GlobalDecl], from: usize) -> Walk
+    ensures end { result ≡ walk (map (λ g. pointer_global g.body) globals.now) from 0 }
+    ensures shorter { IsShorter from result }
+{
+    let mut rest = globals;
+    let mut skip = from;
+    let mut seen = 0;
+    while let [global, tail @ ..] = rest {
+        let is_cell = is_pointer_global(&global.body);
+        if skip == 0 {
+            return Walk::Found(if is_cell { Some(seen) } else { None });
+        }
+        skip -= 1;
+        seen += usize::from(is_cell);
+        rest = tail;
+    }
+    Walk::Past { skip, seen }
+}
+
+/// Walks over the objects among the locals of a procedure.
+fn walk_locals(locals: &[Local], from: usize, before: usize) -> Walk
+    requires { from + before < 2 ^ 64 }
+    ensures end { result ≡ walk (map (λ l. pointer_cell l.body) (filter (λ l. object l.body) locals.now)) from before }
+    ensures shorter { IsShorter (from + before) result }
+{
+    let mut rest = locals;
+    let mut skip = from;
+    let mut seen = before;
+    while let [local, tail @ ..] = rest {
+        if is_object(&local.body) {
+            let is_cell = is_pointer_cell(&local.body);
+            if skip == 0 {
+                return Walk::Found(if is_cell { Some(seen) } else { None });
+            }
+            skip -= 1;
+            seen += usize::from(is_cell);
+        }
+        rest = tail;
+    }
+    Walk::Past { skip, seen }
+}
+
+/// Walks over the objects of a procedure.
+fn walk_proc(f: &Proc, from: usize, before: usize) -> Walk
+    requires { from + before < 2 ^ 64 }
+    ensures end { result ≡ walk (map (λ l. pointer_cell l.body) (objects_of f.now)) from before }
+    ensures shorter { IsShorter (from + before) result }
+{
+    walk_locals(locals_of(f), from, before)
+}
+
+/// The locals of a procedure; none without a body.
+pub(crate) fn locals_of(f: &Proc) -> &[Local]
+    ensures { result.now ≡ locals_in f.now.body }
+{
+    match &f.body {
+        None => &[],
+        Some(body) => body.locals.as_slice(),
+    }
+}
+
+/// Walks over the objects of procedures.
+pub(crate) fn walk_objects(procs: &[Proc], from: usize, before: usize) -> Walk
+    requires { from + before < 2 ^ 64 }
+    ensures { result ≡ walk (map (λ l. pointer_cell l.body) (flat_map objects_of procs.now)) from before }
+{
+    let mut rest = procs;
+    let mut skip = from;
+    let mut seen = before;
+    while let [f, tail @ ..] = rest {
+        match walk_proc(f, skip, seen) {
+            Walk::Found(number) => return Walk::Found(number),
+            Walk::Past {
+                skip: left,
+                seen: cells,
+            } => {
+                skip = left;
+                seen = cells;
+            }
+        }
+        rest = tail;
+    }
+    Walk::Past { skip, seen }
+}
+
+/// Walks over the globals of a program.
+fn walk_program_globals(p: &Program, from: usize) -> Walk
+    ensures end { result ≡ walk (global_cells p.now) from 0 }
+    ensures shorter { IsShorter from result }
+{
+    walk_globals(p.globals.as_slice(), from)
+}
+
+/// Walks over the objects of the procedures of a program.
+fn walk_program_objects(p: &Program, from: usize, before: usize) -> Walk
+    requires { from + before < 2 ^ 64 }
+    ensures { result ≡ walk (object_cells p.now) from before }
+{
+    walk_objects(p.procs.as_slice(), from, before)
+}
+
+fn literal_count(p: &Program) -> usize
+    ensures { result ≡ length p.now.literals }
+{
+    p.literals.len()
+}
+
+/// How many pointer cells stand before the object of this number, None where it is no pointer cell.
+pub(crate) fn cell_number(p: &Program, object: usize) -> Option<usize>
+    ensures { result ≡ number_of_cell (cells p.now) object }
+{
+    match walk_program_globals(p, object) {
+        Walk::Found(number) => number,
+        Walk::Past { skip, seen } => {
+            let literals = literal_count(p);
+            if skip < literals {
+                return None;
+            }
+            match walk_program_objects(p, skip - literals, seen) {
+                Walk::Found(number) => number,
+                Walk::Past { .. } => None,
+            }
+        }
+    }
+}
