@@ -1,5 +1,5 @@
 -- A family that grows by one site stays ascending, and within each family that has the site.
-use Rattle.std.proofs.Common.{◌^◌, refl, ℕ, zero, suc, ◌≡◌, ◌<◌, ◌≤◌, ◌+◌, Bool, true, false, List, [], ◌∷◌, ◌++◌, length, subst, sym, ap, ◌∙◌, arith, if◌then◌else◌, slice_index_or, slice_set, nat_lt, inl, inr, ◌⊎◌}
+use Rattle.std.proofs.Common.{◌^◌, refl, ℕ, zero, suc, ◌≡◌, ◌<◌, ◌≤◌, Bool, true, false, List, [], ◌∷◌, ◌++◌, length, subst, sym, ◌∙◌, arith, if◌then◌else◌, slice_set, nat_lt, inl, inr}
 use Rattle.std.specs.List.{Contains}
 use Rattle.std.proofs.lemmas.Bool.{cases_lt}
 use borrow.Author.Tests.{ltb-true, ltb-false}

@@ -1,5 +1,5 @@
 -- The least closed family: closed, and within every closed family.
-use Rattle.std.specs.Prelude.{Bool, List, [], true, false, if◌then◌else◌, length, nat_lt, suc, zero, ℕ, ◌∷◌, ◌≡◌, ◌≤◌}
+use Rattle.std.specs.Prelude.{List, [], if◌then◌else◌, length, nat_lt, suc, ℕ, ◌∷◌, ◌≡◌, ◌≤◌}
 use Rattle.cv_core.specs.declared.program.Program.{Program}
 use Rattle.cv_points.specs.Closed.{Family, IsClosed, IsWithin, set_at}
 use Rattle.cv_points.specs.Holders.{holders}
