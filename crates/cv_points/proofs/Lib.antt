@@ -1,3 +1,4 @@
+pub mod Inserted
 pub mod Lacking
 pub mod Lists
 pub mod Missed

@@ -4,7 +4,7 @@ use Rattle.std.specs.Option.{option_map}
 use Rattle.std.specs.List.{count_by, flat_map}
 use Rattle.std.proofs.lemmas.Grind.{common_steps}
 use Rattle.std.proofs.lemmas.List.{map-append}
-use Rattle.std.proofs.lemmas.List.Sums.{sum_by-cons}
+use Rattle.std.proofs.lemmas.List.Sums.{sum_by-append, sum_by-cons}
 use Rattle.std.proofs.Math.Seq.{take-length}
 use Rattle.cv_core.specs.Names.{objects_of}
 use Rattle.cv_core.specs.declared.program.Local.{Local}
@@ -116,3 +116,36 @@ found_first fs f d s n k le is e = ap (λ w. then_walk w (flags (flat_map object
 pub past_first : (fs : List Proc) (f d : Proc) (s n skip seen : ℕ) → 1 ≤ length fs → f ≡ slice_index_or fs 0 d →
     walked.Past skip seen ≡ walk (flags (objects_of f)) s n → walk (flags (flat_map objects_of (tail_of fs))) skip seen ≡ walk (flags (flat_map objects_of fs)) s n
 past_first fs f d s n skip seen le is e = ap (λ w. then_walk w (flags (flat_map objects_of (tail_of fs)))) e ∙ sym (peeled fs f d s n le is)
+
+-- ---- how many cells a walk to the end has seen
+
+pub seen-count : (cs : List Bool) (s n skip seen : ℕ) → walked.Past skip seen ≡ walk cs s n → seen ≡ n + count_by (λ c. c) cs
+seen-count [] s n skip seen e = let f : seen ≡ n = cc in let g : count_by (λ (c : Bool). c) [] ≡ 0 = refl in omega arith
+seen-count (c ∷ cs) zero n skip seen e = absurd (cc)
+seen-count (true ∷ cs) (suc s) n skip seen e =
+    let f : count_by (λ c. c) (true ∷ cs) ≡ 1 + count_by (λ c. c) cs = sum_by-cons (λ (c : Bool). if c then 1 else 0) true cs in
+    let g : seen ≡ suc n + count_by (λ c. c) cs = seen-count cs s (suc n) skip seen e in
+    omega (arith, f, g)
+seen-count (false ∷ cs) (suc s) n skip seen e =
+    let f : count_by (λ c. c) (false ∷ cs) ≡ 0 + count_by (λ c. c) cs = sum_by-cons (λ (c : Bool). if c then 1 else 0) false cs in
+    let g : seen ≡ n + count_by (λ c. c) cs = seen-count cs s n skip seen e in
+    omega (arith, f, g)
+
+falses-count : {X : Type 0} (xs : List X) → count_by (λ c. c) (map (λ (x : X). false) xs) ≡ 0
+falses-count [] = refl
+falses-count (x ∷ xs) =
+    let f : count_by (λ c. c) (false ∷ map (λ x. false) xs) ≡ 0 + count_by (λ c. c) (map (λ x. false) xs) = sum_by-cons (λ (c : Bool). if c then 1 else 0) false (map (λ x. false) xs) in
+    let g = falses-count xs in
+    omega (arith, f, g)
+
+added : (seen a o total z front all : ℕ) → seen ≡ 0 + a → total ≡ seen + o → z ≡ 0 → front ≡ a + z → all ≡ front + o → total ≡ all
+added seen a o total z front all e f g h i = omega arith
+
+pub cells-count : (P : Program) (a b skip seen more total : ℕ) → walked.Past skip seen ≡ walk (global_cells P) a 0 → walked.Past more total ≡ walk (object_cells P) b seen → total ≡ count_by (λ c. c) (cells P)
+cells-count P a b skip seen more total e f =
+    let g = seen-count (global_cells P) a 0 skip seen e in
+    let h = seen-count (object_cells P) b seen more total f in
+    let i = falses-count P.literals in
+    let j = sum_by-append (λ (c : Bool). if c then 1 else 0) (global_cells P ++ map (λ l. false) P.literals) (object_cells P) in
+    let k = sum_by-append (λ (c : Bool). if c then 1 else 0) (global_cells P) (map (λ l. false) P.literals) in
+    added seen (count_by (λ c. c) (global_cells P)) (count_by (λ c. c) (object_cells P)) total (count_by (λ c. c) (map (λ l. false) P.literals)) (count_by (λ c. c) (global_cells P ++ map (λ l. false) P.literals)) (count_by (λ c. c) (cells P)) g h i k j

@@ -2,3 +2,4 @@ pub mod Holders
 pub mod Closed
 pub mod Walks
 pub mod Missing
+pub mod Least

@@ -6,11 +6,7 @@ use Rattle.cv_points.specs.Holders.{cell_place}
 use Rattle.cv_points.specs.Walks.{word}
 use Rattle.cv_points.specs.declared.rules.Rule.{Rule}
 
--- what the type of a table says of its sets
-pub record IsTable (S : Family) : Type 0 where
-  pub sets : length S < 2 ^ 64
-  pub sites : (k s : ℕ) → Contains (set_at S k) s → s < 2 ^ 32
-
+-- to keep the rule r, a family has to have the site in the set at `to`, and S lacks it
 pub record IsMissing (P : Program) (S : Family) (r : Rule) (to site : ℕ) : Type 0 where
   pub absent : Contains (set_at S to) site → ⊥
   pub fails : Holds P S r → ⊥

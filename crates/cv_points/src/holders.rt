@@ -164,7 +164,7 @@ pub(crate) fn first_holder(p: &Program, proc: usize) -> usize
     total
 }
 
-fn proc_count(p: &Program) -> usize
+pub(crate) fn proc_count(p: &Program) -> usize
     ensures { result ≡ length p.now.procs }
 {
     p.procs.len()

@@ -2,6 +2,8 @@
 #![tactic(auto)]
 
 mod check;
+mod fixpoint;
+mod growth;
 mod holders;
 mod missing;
 mod place;
@@ -10,6 +12,7 @@ mod statements;
 mod walk;
 
 pub use check::closed;
+pub use fixpoint::least;
 pub use place::Place;
 
 #[cfg(test)]

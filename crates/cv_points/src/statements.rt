@@ -2,11 +2,12 @@
 ghost use Rattle.std.specs.Prelude.{◌≡◌, ◌<◌, ◌≤◌, ◌^◌, IsTrue, MatchOption, Some, bytes_eq, codes, length, slice_get, ℕ};
 ghost use Rattle.std.specs.Option.{option_copied};
 ghost use Rattle.cv_core.specs.Names.{stmts_of as stmts_in};
-ghost use Rattle.cv_points.specs.Closed.{HoldsIn, is_start as is_start_of, MaybeHolds, StatementHolds, Starts, form_rule as form_rule_of, formal_rule as formal_rule_of, global_rule as global_rule_of};
+ghost use Rattle.cv_points.specs.Closed.{HoldsAt, HoldsIn, IsClosed, is_start as is_start_of, MaybeHolds, StatementHolds, Starts, form_rule as form_rule_of, formal_rule as formal_rule_of, global_rule as global_rule_of};
 ghost use Rattle.cv_points.specs.Holders.{first_holder as first_holder_of};
 ghost use Rattle.cv_points.specs.Missing.{Lacks};
 ghost use Rattle.cv_points.specs.Walks.{word};
 
+use crate::holders::{first_holder, proc_count, stmts_of};
 use crate::missing::{Missing, missing_by};
 use crate::rules::{argument_count, form_rule, formal_rule, global_rule};
 use cv_core::{Form, List, Proc, Program, Stmt};
@@ -191,4 +192,53 @@ pub(crate) fn missing_in_statement(
         None => None,
         Some(s) => missing_at(p, sets, proc, first, f, statement, &s.form),
     }
+}
+
+/// What a statement of the procedure asks for.
+fn missing_in_proc(
+    p: &Program,
+    sets: &[List<u32>],
+    proc: usize,
+    first: usize,
+    f: &Proc,
+) -> Option<Missing>
+    requires counted { length sets.now < 2 ^ 64 }
+    requires start { first ≡ word (first_holder_of p.now proc) }
+    requires here { slice_get p.now.procs proc ≡ Some f.now }
+    requires among { proc ≤ length p.now.procs }
+    ensures { MatchOption result ((k : ℕ) → HoldsIn p.now sets.now proc f.now k) (λ m. Lacks sets.now (λ R. (k : ℕ) → HoldsIn p.now R proc f.now k) m.to m.site) }
+{
+    for statement in 0..stmts_of(f).len() {
+        match missing_in_statement(p, sets, proc, first, f, statement) {
+            None => {}
+            Some(missing) => return Some(missing),
+        }
+    }
+    None
+}
+
+/// What a statement of the procedure of this number asks for.
+fn missing_at_proc(p: &Program, sets: &[List<u32>], proc: usize) -> Option<Missing>
+    requires counted { length sets.now < 2 ^ 64 }
+    requires among { proc ≤ length p.now.procs }
+    ensures { MatchOption result ((k : ℕ) → HoldsAt p.now sets.now proc k) (λ m. Lacks sets.now (λ R. (k : ℕ) → HoldsAt p.now R proc k) m.to m.site) }
+{
+    match p.procs.get(proc) {
+        None => None,
+        Some(f) => missing_in_proc(p, sets, proc, first_holder(p, proc), f),
+    }
+}
+
+/// What the first statement with a rule that fails asks for.
+pub(crate) fn first_missing(p: &Program, sets: &[List<u32>]) -> Option<Missing>
+    requires { length sets.now < 2 ^ 64 }
+    ensures { MatchOption result (IsClosed p.now sets.now) (λ m. Lacks sets.now (λ R. IsClosed p.now R) m.to m.site) }
+{
+    for proc in 0..proc_count(p) {
+        match missing_at_proc(p, sets, proc) {
+            None => {}
+            Some(missing) => return Some(missing),
+        }
+    }
+    None
 }

@@ -1,6 +1,6 @@
 ghost use Rattle.std.specs.Prelude.{◌≡◌, ◌∷◌, [], IfOk};
 
-use crate::{Place, closed};
+use crate::{Place, closed, least};
 use cv_core::{
     Contract, Form, Formal, List, Proc, ProcBody, Program, PtsTable, ResultKind, Stmt, VarKind,
 };
@@ -82,5 +82,18 @@ fn first_open_statement(rt: HostRuntime) -> Result<(), Fail> {
         sets: single(alloc, single(alloc, 0u32)?)?,
     };
     assert_eq!(rt; closed(&program, &start), Ok(()));
+    Ok(())
+}
+
+#[test]
+fn least_family(rt: HostRuntime) -> Result<(), Fail> {
+    let alloc = rt.alloc();
+    let program = one_formal(alloc)?;
+    let family = least(alloc, &program)?;
+    assert_eq!(rt; family.sets.len(), 1);
+    for set in family.sets.as_slice() {
+        assert_eq!(rt; set.as_slice(), [0u32].as_slice());
+    }
+    assert_eq!(rt; closed(&program, &family), Ok(()));
     Ok(())
 }

@@ -1,6 +1,6 @@
 //! The walk over the objects of a program to one that has a given number.
-ghost use Rattle.std.specs.Prelude.{◌≡◌, ◌+◌, ◌<◌, ◌≤◌, ◌^◌, length, map, Bool, List as Items};
-ghost use Rattle.std.specs.List.{filter, flat_map};
+ghost use Rattle.std.specs.Prelude.{IfSome, ◌≡◌, ◌+◌, ◌<◌, ◌≤◌, ◌^◌, length, map, Bool, List as Items};
+ghost use Rattle.std.specs.List.{count_by, filter, flat_map};
 ghost use Rattle.cv_core.specs.Names.{is_object as object, locals_of as locals_in, objects_of};
 ghost use Rattle.cv_points.specs.Holders.{cell_number as number_of_cell, cells, global_cells, object_cells, is_pointer_cell as pointer_cell, is_pointer_global as pointer_global};
 ghost use Rattle.cv_points.specs.Walks.{walk, IsShorter};
@@ -158,5 +158,18 @@ pub(crate) fn cell_number(p: &Program, object: usize) -> Option<usize>
                 Walk::Past { .. } => None,
             }
         }
+    }
+}
+
+/// How many pointer cells the globals and objects of a program are; None where a word can't count the objects.
+pub(crate) fn cell_total(p: &Program) -> Option<usize>
+    ensures { IfSome result (λ n. n ≡ count_by (λ c. c) (cells p.now)) }
+{
+    match walk_program_globals(p, usize::MAX) {
+        Walk::Found(_) => None,
+        Walk::Past { seen, .. } => match walk_program_objects(p, usize::MAX - seen, seen) {
+            Walk::Found(_) => None,
+            Walk::Past { seen: total, .. } => Some(total),
+        },
     }
 }
