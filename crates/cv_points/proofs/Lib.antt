@@ -1,5 +1,9 @@
-pub mod Inserted
+pub mod Added
+pub mod Grown
 pub mod Lacking
 pub mod Lists
+pub mod Merged
 pub mod Missed
+pub mod Placed
+pub mod Saturated
 pub mod Walked

@@ -33,7 +33,7 @@ one_more false n a k e = refl
 none_more : (b : Bool) (n a k : ℕ) → k ≡ a → option_map (λ m. n + m) (if b then Some a else None) ≡ option_map (λ m. n + m) (if b then Some k else None)
 none_more b n a k e = ap (λ m. option_map (λ m. n + m) (if b then Some m else None)) (sym e)
 
-found-number : (cs : List Bool) (s n : ℕ) → found (walk cs s n) ≡ option_map (λ k. n + k) (cell_number cs s)
+pub found-number : (cs : List Bool) (s n : ℕ) → found (walk cs s n) ≡ option_map (λ k. n + k) (cell_number cs s)
 found-number [] s n = refl
 found-number (true ∷ cs) zero n = grind (arith, common_steps)
 found-number (false ∷ cs) zero n = refl

@@ -1,13 +1,8 @@
 -- The least closed family: closed, and within every closed family.
-use Rattle.std.specs.Prelude.{List, [], if◌then◌else◌, length, nat_lt, suc, ℕ, ◌∷◌, ◌≡◌, ◌≤◌}
+use Rattle.std.specs.Prelude.{List, [], length, suc, ℕ, ◌∷◌, ◌≡◌, ◌≤◌}
 use Rattle.cv_core.specs.declared.program.Program.{Program}
 use Rattle.cv_points.specs.Closed.{Family, IsClosed, IsWithin, set_at}
 use Rattle.cv_points.specs.Holders.{holders}
-
--- a site put into an ascending set
-abbrev pub insert_site : ℕ → List ℕ → List ℕ
-insert_site s [] = s ∷ []
-insert_site s (t ∷ ts) = if nat_lt s t then s ∷ t ∷ ts else t ∷ insert_site s ts
 
 abbrev pub IsAscendingFrom : ℕ → List ℕ → Type 0
 IsAscendingFrom low [] = Unit {0}
@@ -27,9 +22,3 @@ pub record IsLeast (P : Program) (S : Family) : Type 0 where
   pub ascending : (h : ℕ) → IsAscending (set_at S h)
   pub closed : IsClosed P S
   pub least : (R : Family) → length R ≡ holders P → IsClosed P R → IsWithin S R
-
--- a family on the way to the least one
-pub record IsBelow (P : Program) (S : Family) : Type 0 where
-  pub long : length S ≡ holders P
-  pub ascending : (h : ℕ) → IsAscending (set_at S h)
-  pub below : (R : Family) → length R ≡ holders P → IsClosed P R → IsWithin S R

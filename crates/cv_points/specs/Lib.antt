@@ -3,3 +3,5 @@ pub mod Closed
 pub mod Walks
 pub mod Missing
 pub mod Least
+pub mod Merge
+pub mod Growing

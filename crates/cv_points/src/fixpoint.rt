@@ -1,12 +1,15 @@
 //! The least closed family.
-ghost use Rattle.std.specs.Prelude.{◌≡◌, ◌<◌, ◌^◌, IfOk, IfSome, MatchBool, ⊤, length};
-ghost use Rattle.cv_points.specs.Closed.{IsClosed};
+ghost use Rattle.std.specs.Prelude.{◌≡◌, IfOk, IfSome, length, ℕ};
+ghost use Rattle.cv_points.specs.Closed.{Family, IsClosed, IsWithin, set_at};
+ghost use Rattle.cv_points.specs.Growing.{IsSaturated, IsTable};
 ghost use Rattle.cv_points.specs.Holders.{holders};
-ghost use Rattle.cv_points.specs.Least.{IsBelow, IsLeast};
+ghost use Rattle.cv_points.specs.Least.{IsAscending, IsLeast};
 
-use crate::growth::{empty_sets, grow};
+use crate::collect::all_rules;
+use crate::growth::{apply_all, empty_sets};
 use crate::holders::{first_holder, proc_count};
-use crate::statements::first_missing;
+use crate::places::cell_places;
+use crate::rules::Rule;
 use crate::walk::cell_total;
 use cv_core::{List, Program, PtsTable};
 use std::alloc::{AllocError, Global};
@@ -28,48 +31,56 @@ fn holder_total(p: &Program) -> Option<usize>
     }
 }
 
-/// Puts the first site that a rule asks for and a family lacks into it; false where the family is closed.
-fn grow_once(alloc: Global, p: &Program, sets: &mut Vec<List<u32>>) -> Result<bool, AllocError>
-    requires { IsBelow p.now sets.old.items }
-    ensures { IfOk result (λ more. IsBelow p.now sets.new.items × MatchBool more ⊤ (IsClosed p.now sets.new.items)) }
+/// Lets sets grow by rules until they keep them all, in passes over the rules.
+fn saturated(
+    alloc: Global,
+    cells: &[Option<usize>],
+    rules: &[Rule],
+    start: Vec<List<u32>>,
+) -> Result<Vec<List<u32>>, AllocError>
+    requires { IsTable (length start.items) start.items }
+    ensures { IfOk result (λ sets. IsSaturated cells.now rules.now start.items sets.items) }
 {
-    let count = sets.len();
-    match first_missing(p, sets.as_slice()) {
-        None => Ok(false),
-        Some(missing) => {
-            if missing.to >= count || missing.site > 4294967295 {
-                return Err(AllocError);
-            }
-            grow(alloc, sets, missing.to, missing.site as u32)?;
-            Ok(true)
-        }
-    }
+    let mut sets = start;
+    while apply_all(alloc, cells, &mut sets, rules)? {}
+    Ok(sets)
 }
 
-/// The least closed family of a program: it is closed, and within every closed family that has as many sets.
-/// An error is want of memory. One site is added at a time, by the first statement that asks for one, so the
-/// time is the number of sites in the result times a walk over the program.
-pub fn least(alloc: Global, p: &Program) -> Result<PtsTable, AllocError>
+/// The sets of the least closed family.
+fn least_sets(alloc: Global, p: &Program, count: usize) -> Result<Vec<List<u32>>, AllocError>
+    requires { count ≡ holders p.now }
+    ensures { IfOk result (λ sets. IsLeast p.now sets.items) }
+{
+    let cells = cell_places(alloc, p)?;
+    let rules = all_rules(alloc, p)?;
+    let start = empty_sets(alloc, count)?;
+    let sets = saturated(alloc, cells.as_slice(), rules.as_slice(), start)?;
+    Ok(sets)
+}
+
+fn least_family(alloc: Global, p: &Program) -> Result<PtsTable, AllocError>
     ensures { IfOk result (λ table. IsLeast p.now table) }
 {
     match holder_total(p) {
         None => Err(AllocError),
-        Some(count) => grow_all(alloc, p, empty_sets(alloc, count)?),
+        Some(count) => {
+            let sets = least_sets(alloc, p, count)?;
+            Ok(PtsTable {
+                sets: List::from_vec(sets),
+            })
+        }
     }
 }
 
-/// Lets a family grow until it is closed. More sites than a word can count have no room in memory.
-fn grow_all(alloc: Global, p: &Program, start: Vec<List<u32>>) -> Result<PtsTable, AllocError>
-    requires { IsBelow p.now start.items }
-    ensures { IfOk result (λ table. IsLeast p.now table) }
+/// The least closed family of a program: one ascending set of sites for each holder, closed under the rules of
+/// inclusion after Andersen, and within every closed family that has as many sets. An error is want of memory.
+/// The rules of all statements are listed once and then gone through in passes, until a pass adds no site; a rule
+/// takes one walk over the ascending sets that it joins.
+pub fn least(alloc: Global, p: &Program) -> Result<PtsTable, AllocError>
+    ensures counted { IfOk result (λ table. length table ≡ holders p.now) }
+    ensures ascending { IfOk result (λ table. (h : ℕ) → IsAscending (set_at table h)) }
+    ensures closed { IfOk result (λ table. IsClosed p.now table) }
+    ensures least { IfOk result (λ table. (R : Family) → length R ≡ holders p.now → IsClosed p.now R → IsWithin table R) }
 {
-    let mut sets = start;
-    for _ in 0..u64::MAX {
-        if !grow_once(alloc, p, &mut sets)? {
-            return Ok(PtsTable {
-                sets: List::from_vec(sets),
-            });
-        }
-    }
-    Err(AllocError)
+    least_family(alloc, p)
 }

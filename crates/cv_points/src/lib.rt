@@ -2,17 +2,21 @@
 #![tactic(auto)]
 
 mod check;
+mod collect;
 mod fixpoint;
 mod growth;
 mod holders;
+mod merge;
 mod missing;
 mod place;
+mod places;
 mod rules;
 mod statements;
 mod walk;
 
 pub use check::closed;
 pub use fixpoint::least;
+
 pub use place::Place;
 
 #[cfg(test)]

@@ -88,7 +88,7 @@ fn missing_in_formals(
     None
 }
 
-fn global_count(p: &Program) -> usize
+pub(crate) fn global_count(p: &Program) -> usize
     ensures { result ≡ length p.now.globals }
 {
     p.globals.len()
@@ -127,7 +127,7 @@ fn missing_at_start(
 }
 
 /// Whether a statement is the first one of main.
-fn is_start(f: &Proc, statement: usize) -> bool
+pub(crate) fn is_start(f: &Proc, statement: usize) -> bool
     ensures { result ≡ is_start_of f.now statement }
 {
     statement == 0 && f.name.as_slice() == b"main".as_slice()
@@ -163,7 +163,7 @@ fn missing_at(
 }
 
 /// The statement of this number.
-fn statement_at(f: &Proc, statement: usize) -> Option<&Stmt>
+pub(crate) fn statement_at(f: &Proc, statement: usize) -> Option<&Stmt>
     ensures { option_copied result ≡ slice_get (stmts_in f.now.body) statement }
 {
     match &f.body {

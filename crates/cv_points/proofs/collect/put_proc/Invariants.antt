@@ -1,0 +1,9 @@
+use Rattle.std.proofs.Common.{ℕ, suc, slice_get}
+use Rattle.cv_points.specs.Closed.{Family, HoldsAt, HoldsIn, MaybeHolds, form_rule, formal_rule, global_rule}
+use Rattle.cv_points.specs.Growing.{AddsRules}
+use Rattle.cv_points.specs.Holders.{first_holder}
+use Rattle.cv_points.proofs.Added.{Below}
+use Rattle.cv_points.proofs.collect.put_proc.Given as goal
+
+abbrev pub invariant-loop-statement : goal.invariant-loop-statement
+invariant-loop-statement l = AddsRules l.p l.initial.rules.items l.rules.items (Below (λ (S : Family) (n : ℕ). HoldsIn l.p S l.proc l.f n) l.statement)

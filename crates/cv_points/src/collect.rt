@@ -1,0 +1,204 @@
+//! The rules of all statements of a program, as one list.
+ghost use Rattle.std.specs.Prelude.{◌≡◌, ◌<◌, ◌≤◌, IfOk, OnOk, Option as Maybe, Some, length, slice_get, true, ℕ};
+ghost use Rattle.std.specs.Option.{option_map};
+ghost use Rattle.cv_core.specs.Names.{stmts_of as stmts_in};
+ghost use Rattle.cv_core.specs.declared.program.Program.{Program as ProgramValue};
+ghost use Rattle.cv_points.specs.Closed.{HoldsAt, HoldsIn, IsClosed, MaybeHolds, StatementHolds, Starts, form_rule as form_rule_of, formal_rule as formal_rule_of, global_rule as global_rule_of};
+ghost use Rattle.cv_points.specs.Growing.{AddsRules, AreRules};
+ghost use Rattle.cv_points.specs.Holders.{first_holder as first_holder_of};
+ghost use Rattle.cv_points.specs.Walks.{word, word_rule};
+ghost use Rattle.cv_points.specs.declared.rules.Rule.{Rule as RuleValue};
+
+use crate::holders::{first_holder, proc_count, stmts_of};
+use crate::rules::{Rule, argument_count, form_rule, formal_rule, global_rule};
+use crate::statements::{global_count, is_start, statement_at};
+use cv_core::{Form, Proc, Program};
+use std::alloc::{AllocError, Global};
+
+/// Whether a word holds each number of a rule.
+fn fits(rule: &Rule) -> bool
+    ensures { (r : RuleValue) → rule.now ≡ word_rule r → result ≡ true → rule.now ≡ r }
+{
+    match *rule {
+        Rule::Has { to, site } => to < usize::MAX && site < usize::MAX,
+        Rule::Includes { from, to } => from < usize::MAX && to < usize::MAX,
+        Rule::Reads { pointer, to } => pointer < usize::MAX && to < usize::MAX,
+        Rule::Writes { from, pointer } => from < usize::MAX && pointer < usize::MAX,
+    }
+}
+
+/// Puts a rule behind the others. A number that a word can't hold has no room in memory.
+fn put_rule(rules: &mut Vec<Rule>, rule: Option<Rule>) -> Result<(), AllocError>
+    ensures { OnOk result ((P : ProgramValue) (r : Maybe RuleValue) → rule ≡ option_map word_rule r → AddsRules P rules.old.items rules.new.items (λ S. MaybeHolds P S r)) }
+{
+    match rule {
+        None => Ok(()),
+        Some(rule) => {
+            if !fits(&rule) {
+                return Err(AllocError);
+            }
+            rules.push(rule)?;
+            Ok(())
+        }
+    }
+}
+
+/// Puts the rule of that number of a statement behind the others.
+fn put_numbered(
+    rules: &mut Vec<Rule>,
+    p: &Program,
+    proc: usize,
+    first: usize,
+    f: &Proc,
+    statement: usize,
+    form: &Form,
+    number: usize,
+) -> Result<(), AllocError>
+    requires start { first ≡ word (first_holder_of p.now proc) }
+    requires here { slice_get p.now.procs proc ≡ Some f.now }
+    requires among { proc ≤ length p.now.procs }
+    requires there { statement ≤ length (stmts_in f.now.body) }
+    ensures { OnOk result (AddsRules p.now rules.old.items rules.new.items (λ S. MaybeHolds p.now S (form_rule_of p.now proc f.now statement form.now number))) }
+{
+    put_rule(rules, form_rule(p, proc, first, f, statement, form, number))?;
+    Ok(())
+}
+
+/// Puts the rules of a statement behind the others.
+fn put_form(
+    rules: &mut Vec<Rule>,
+    p: &Program,
+    proc: usize,
+    first: usize,
+    f: &Proc,
+    statement: usize,
+    form: &Form,
+) -> Result<(), AllocError>
+    requires start { first ≡ word (first_holder_of p.now proc) }
+    requires here { slice_get p.now.procs proc ≡ Some f.now }
+    requires among { proc ≤ length p.now.procs }
+    requires there { statement ≤ length (stmts_in f.now.body) }
+    ensures { OnOk result (AddsRules p.now rules.old.items rules.new.items (λ S. (n : ℕ) → MaybeHolds p.now S (form_rule_of p.now proc f.now statement form.now n))) }
+{
+    put_numbered(rules, p, proc, first, f, statement, form, 0)?;
+    for number in 0..argument_count(form) {
+        put_numbered(rules, p, proc, first, f, statement, form, number + 1)?;
+    }
+    Ok(())
+}
+
+/// Puts what the start asks of main's formals behind the other rules.
+fn put_formals(rules: &mut Vec<Rule>, p: &Program, proc: usize, first: usize, f: &Proc) -> Result<(), AllocError>
+    requires { first ≡ word (first_holder_of p.now proc) }
+    ensures { OnOk result (AddsRules p.now rules.old.items rules.new.items (λ S. (n : ℕ) → MaybeHolds p.now S (formal_rule_of (first_holder_of p.now proc) f.now (slice_get f.now.formals n)))) }
+{
+    for number in 0..f.formals.len() {
+        put_rule(rules, formal_rule(f, first, f.formals.get(number)))?;
+    }
+    Ok(())
+}
+
+/// Puts what the start asks of pointer globals behind the other rules.
+fn put_globals(rules: &mut Vec<Rule>, p: &Program) -> Result<(), AllocError>
+    ensures { OnOk result (AddsRules p.now rules.old.items rules.new.items (λ S. (n : ℕ) → MaybeHolds p.now S (global_rule_of p.now n))) }
+{
+    for number in 0..global_count(p) {
+        put_rule(rules, global_rule(p, number))?;
+    }
+    Ok(())
+}
+
+/// Puts what the start asks for behind the other rules.
+fn put_start(rules: &mut Vec<Rule>, p: &Program, proc: usize, first: usize, f: &Proc) -> Result<(), AllocError>
+    requires { first ≡ word (first_holder_of p.now proc) }
+    ensures { OnOk result (AddsRules p.now rules.old.items rules.new.items (λ S. Starts p.now S proc f.now)) }
+{
+    put_formals(rules, p, proc, first, f)?;
+    put_globals(rules, p)?;
+    Ok(())
+}
+
+/// Puts the rules of a statement, and those of the start where it is main's first, behind the others.
+fn put_statement(
+    rules: &mut Vec<Rule>,
+    p: &Program,
+    proc: usize,
+    first: usize,
+    f: &Proc,
+    statement: usize,
+    form: &Form,
+) -> Result<(), AllocError>
+    requires start { first ≡ word (first_holder_of p.now proc) }
+    requires here { slice_get p.now.procs proc ≡ Some f.now }
+    requires among { proc ≤ length p.now.procs }
+    requires there { statement ≤ length (stmts_in f.now.body) }
+    ensures { OnOk result (AddsRules p.now rules.old.items rules.new.items (λ S. StatementHolds p.now S proc f.now statement form.now)) }
+{
+    put_form(rules, p, proc, first, f, statement, form)?;
+    if is_start(f, statement) {
+        put_start(rules, p, proc, first, f)?;
+    }
+    Ok(())
+}
+
+/// Puts the rules of the statement of that number behind the others.
+fn put_at(
+    rules: &mut Vec<Rule>,
+    p: &Program,
+    proc: usize,
+    first: usize,
+    f: &Proc,
+    statement: usize,
+) -> Result<(), AllocError>
+    requires start { first ≡ word (first_holder_of p.now proc) }
+    requires here { slice_get p.now.procs proc ≡ Some f.now }
+    requires among { proc ≤ length p.now.procs }
+    requires there { statement ≤ length (stmts_in f.now.body) }
+    ensures { OnOk result (AddsRules p.now rules.old.items rules.new.items (λ S. HoldsIn p.now S proc f.now statement)) }
+{
+    match statement_at(f, statement) {
+        None => Ok(()),
+        Some(s) => {
+            put_statement(rules, p, proc, first, f, statement, &s.form)?;
+            Ok(())
+        }
+    }
+}
+
+/// Puts the rules of the statements of a procedure behind the others.
+fn put_proc(rules: &mut Vec<Rule>, p: &Program, proc: usize, first: usize, f: &Proc) -> Result<(), AllocError>
+    requires start { first ≡ word (first_holder_of p.now proc) }
+    requires here { slice_get p.now.procs proc ≡ Some f.now }
+    requires among { proc ≤ length p.now.procs }
+    ensures { OnOk result (AddsRules p.now rules.old.items rules.new.items (λ S. (k : ℕ) → HoldsIn p.now S proc f.now k)) }
+{
+    for statement in 0..stmts_of(f).len() {
+        put_at(rules, p, proc, first, f, statement)?;
+    }
+    Ok(())
+}
+
+/// Puts the rules of the statements of the procedure of that number behind the others.
+fn put_proc_at(rules: &mut Vec<Rule>, p: &Program, proc: usize) -> Result<(), AllocError>
+    requires { proc ≤ length p.now.procs }
+    ensures { OnOk result (AddsRules p.now rules.old.items rules.new.items (λ S. (k : ℕ) → HoldsAt p.now S proc k)) }
+{
+    match p.procs.get(proc) {
+        None => Ok(()),
+        Some(f) => {
+            put_proc(rules, p, proc, first_holder(p, proc), f)?;
+            Ok(())
+        }
+    }
+}
+
+/// The rules of a program: a family keeps them all where it is closed, and nowhere else.
+pub(crate) fn all_rules(alloc: Global, p: &Program) -> Result<Vec<Rule>, AllocError>
+    ensures { IfOk result (λ rules. AreRules p.now rules.items) }
+{
+    let mut rules = Vec::new(alloc);
+    for proc in 0..proc_count(p) {
+        put_proc_at(&mut rules, p, proc)?;
+    }
+    Ok(rules)
+}

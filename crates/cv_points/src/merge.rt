@@ -1,0 +1,86 @@
+//! Ascending sets of sites.
+ghost use Rattle.std.specs.Prelude.{◌≡◌, ◌++◌, IfOk, MatchOption, false, true};
+ghost use Rattle.cv_points.specs.Merge.{above, below, is_merged as is_merged_in, is_next, merge};
+
+use cv_core::List;
+use std::alloc::{AllocError, Global};
+
+/// What stands behind a site in a set; None where the set lacks it.
+fn after(set: &[u32], site: u32) -> Option<&[u32]>
+    ensures { MatchOption result (is_next site set.now ≡ false) (λ rest. (is_next site set.now ≡ true) × (rest.now ≡ above site set.now)) }
+{
+    let mut rest = set;
+    while let [s, tail @ ..] = rest {
+        if *s >= site {
+            return if *s == site { Some(tail) } else { None };
+        }
+        rest = tail;
+    }
+    None
+}
+
+/// Whether each site of `from` is in `to`.
+fn is_merged(from: &[u32], to: &[u32]) -> bool
+    ensures { result ≡ is_merged_in from.now to.now }
+{
+    let mut left = from;
+    let mut right = to;
+    while let [site, tail @ ..] = left {
+        match after(right, *site) {
+            None => return false,
+            Some(rest) => right = rest,
+        }
+        left = tail;
+    }
+    true
+}
+
+/// Puts the sites of a set below `site` behind `items`, and gives those above it.
+fn push_below<'a>(
+    items: &mut Vec<u32>,
+    set: &'a [u32],
+    site: u32,
+) -> Result<&'a [u32], AllocError>
+    ensures { IfOk result (λ rest. (items.new.items ≡ items.old.items ++ below site set.now) × (rest.now ≡ above site set.now)) }
+{
+    let mut rest = set;
+    while let [s, tail @ ..] = rest {
+        if *s >= site {
+            return Ok(if *s == site { tail } else { rest });
+        }
+        items.push(*s)?;
+        rest = tail;
+    }
+    Ok(rest)
+}
+
+/// The union of two sets.
+fn union(alloc: Global, from: &[u32], to: &[u32]) -> Result<List<u32>, AllocError>
+    ensures { IfOk result (λ xs. xs ≡ merge from.now to.now) }
+{
+    let mut items = Vec::new(alloc);
+    let mut left = from;
+    let mut right = to;
+    while let [site, tail @ ..] = left {
+        right = push_below(&mut items, right, *site)?;
+        items.push(*site)?;
+        left = tail;
+    }
+    items.extend_from_slice(right)?;
+    Ok(List::from_vec(items))
+}
+
+/// The union of two sets, None where it is `to` itself. It takes one walk over both.
+pub(crate) fn merged(
+    alloc: Global,
+    from: &[u32],
+    to: &[u32],
+) -> Result<Option<List<u32>>, AllocError>
+    ensures { IfOk result (λ set. MatchOption set (is_merged_in from.now to.now ≡ true) (λ xs. (is_merged_in from.now to.now ≡ false) × (xs ≡ merge from.now to.now))) }
+{
+    if is_merged(from, to) {
+        return Ok(None);
+    }
+    let set = union(alloc, from, to)?;
+    Ok(Some(set))
+}
