@@ -1,11 +1,10 @@
 //! Whether a family is closed under the rules of a program's statements.
-ghost use Rattle.std.specs.Prelude.{◌≡◌, ◌<◌, ◌≤◌, ◌^◌, MatchBool, MatchOption, MatchResult, Some, length, slice_get, ℕ};
+ghost use Rattle.std.specs.Prelude.{◌≡◌, ◌<◌, ◌≤◌, ◌^◌, ◌↔◌, IfErr, IsOk, MatchBool, MatchOption, MatchResult, Some, length, slice_get, ℕ};
 ghost use Rattle.cv_core.specs.Names.{stmts_of as stmts_in};
 ghost use Rattle.cv_points.specs.Closed.{HoldsAt, HoldsIn, IsClosed, IsFirstOpenAt, capped as capped_of};
-ghost use Rattle.cv_points.specs.Holders.{first_holder as first_holder_of};
-ghost use Rattle.cv_points.specs.Walks.{word};
+ghost use Rattle.cv_points.specs.Walks.{AreBases, AreStarts};
 
-use crate::holders::{first_holder, stmts_of};
+use crate::holders::{Bases, bases_of, starts, stmts_of};
 use crate::place::Place;
 use crate::statements::missing_in_statement;
 use cv_core::{List, Proc, Program, PtsTable};
@@ -14,19 +13,21 @@ use cv_core::{List, Proc, Program, PtsTable};
 fn holds_in(
     p: &Program,
     sets: &[List<u32>],
+    known: &[usize],
     proc: usize,
-    first: usize,
+    bases: Bases,
     f: &Proc,
     statement: usize,
 ) -> bool
     requires counted { length sets.now < 2 ^ 64 }
-    requires start { first ≡ word (first_holder_of p.now proc) }
+    requires known { AreStarts p.now known.now }
+    requires bases { AreBases p.now proc bases }
     requires here { slice_get p.now.procs proc ≡ Some f.now }
     requires among { proc ≤ length p.now.procs }
     requires there { statement ≤ length (stmts_in f.now.body) }
     ensures { MatchBool result (HoldsIn p.now sets.now proc f.now statement) (HoldsIn p.now sets.now proc f.now statement → ⊥) }
 {
-    match missing_in_statement(p, sets, proc, first, f, statement) {
+    match missing_in_statement(p, sets, known, proc, bases, f, statement) {
         None => true,
         Some(_) => false,
     }
@@ -36,18 +37,20 @@ fn holds_in(
 fn first_open_in(
     p: &Program,
     sets: &[List<u32>],
+    known: &[usize],
     proc: usize,
-    first: usize,
+    bases: Bases,
     f: &Proc,
 ) -> Option<usize>
     requires counted { length sets.now < 2 ^ 64 }
-    requires start { first ≡ word (first_holder_of p.now proc) }
+    requires known { AreStarts p.now known.now }
+    requires bases { AreBases p.now proc bases }
     requires here { slice_get p.now.procs proc ≡ Some f.now }
     requires among { proc ≤ length p.now.procs }
     ensures { MatchOption result ((k : ℕ) → HoldsIn p.now sets.now proc f.now k) (λ k. (HoldsIn p.now sets.now proc f.now k → ⊥) × ((n : ℕ) → n < k → HoldsIn p.now sets.now proc f.now n)) }
 {
     for statement in 0..stmts_of(f).len() {
-        if !holds_in(p, sets, proc, first, f, statement) {
+        if !holds_in(p, sets, known, proc, bases, f, statement) {
             return Some(statement);
         }
     }
@@ -55,14 +58,20 @@ fn first_open_in(
 }
 
 /// The first statement of the procedure of this number of which a rule fails.
-fn first_open_at(p: &Program, sets: &[List<u32>], proc: usize) -> Option<usize>
+fn first_open_at(
+    p: &Program,
+    sets: &[List<u32>],
+    known: &[usize],
+    proc: usize,
+) -> Option<usize>
     requires counted { length sets.now < 2 ^ 64 }
+    requires known { AreStarts p.now known.now }
     requires among { proc ≤ length p.now.procs }
     ensures { MatchOption result ((k : ℕ) → HoldsAt p.now sets.now proc k) (λ k. (HoldsAt p.now sets.now proc k → ⊥) × ((n : ℕ) → n < k → HoldsAt p.now sets.now proc n)) }
 {
     match p.procs.get(proc) {
         None => None,
-        Some(f) => first_open_in(p, sets, proc, first_holder(p, proc), f),
+        Some(f) => first_open_in(p, sets, known, proc, bases_of(p, proc), f),
     }
 }
 
@@ -97,7 +106,8 @@ fn sets_of(table: &PtsTable) -> &[List<u32>]
 /// belongs to the first statement of main. A holder without a set counts as having the empty one. It takes
 /// no memory. The rules are those of inclusion after Andersen, without regard to the order of statements.
 pub fn closed(p: &Program, table: &PtsTable) -> Result<(), Place>
-    ensures { MatchResult result (λ done. IsClosed p.now table.now) (λ at. IsFirstOpenAt p.now table.now at) }
+    ensures closed { IsOk result ↔ IsClosed p.now table.now }
+    ensures place { IfErr result (λ at. IsFirstOpenAt p.now table.now at) }
 {
     closed_under(p, sets_of(table))
 }
@@ -106,8 +116,9 @@ fn closed_under(p: &Program, sets: &[List<u32>]) -> Result<(), Place>
     requires { length sets.now < 2 ^ 64 }
     ensures { MatchResult result (λ done. IsClosed p.now sets.now) (λ at. IsFirstOpenAt p.now sets.now at) }
 {
+    let known = starts(p);
     for proc in 0..proc_count(p) {
-        match first_open_at(p, sets, proc) {
+        match first_open_at(p, sets, known.as_slice(), proc) {
             None => {}
             Some(statement) => {
                 return Err(Place {

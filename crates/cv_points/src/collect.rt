@@ -6,11 +6,11 @@ ghost use Rattle.cv_core.specs.declared.program.Program.{Program as ProgramValue
 ghost use Rattle.cv_points.specs.Closed.{HoldsAt, HoldsIn, IsClosed, MaybeHolds, StatementHolds, Starts, form_rule as form_rule_of, formal_rule as formal_rule_of, global_rule as global_rule_of};
 ghost use Rattle.cv_points.specs.Growing.{AddsRules, AreRules};
 ghost use Rattle.cv_points.specs.Holders.{first_holder as first_holder_of};
-ghost use Rattle.cv_points.specs.Walks.{word, word_rule};
+ghost use Rattle.cv_points.specs.Walks.{AreBases, AreStarts, callee_in, word_rule};
 ghost use Rattle.cv_points.specs.declared.rules.Rule.{Rule as RuleValue};
 
-use crate::holders::{first_holder, proc_count, stmts_of};
-use crate::rules::{Rule, argument_count, form_rule, formal_rule, global_rule};
+use crate::holders::{Bases, bases_of, proc_count, starts, stmts_of};
+use crate::rules::{Rule, argument_count, callee_of, form_rule, formal_rule, global_rule};
 use crate::statements::{global_count, is_start, statement_at};
 use cv_core::{Form, Proc, Program};
 use std::alloc::{AllocError, Global};
@@ -47,20 +47,27 @@ fn put_rule(rules: &mut Vec<Rule>, rule: Option<Rule>) -> Result<(), AllocError>
 fn put_numbered(
     rules: &mut Vec<Rule>,
     p: &Program,
+    known: &[usize],
     proc: usize,
-    first: usize,
+    bases: Bases,
     f: &Proc,
     statement: usize,
     form: &Form,
+    callee: Option<usize>,
     number: usize,
 ) -> Result<(), AllocError>
-    requires start { first ≡ word (first_holder_of p.now proc) }
+    requires known { AreStarts p.now known.now }
+    requires bases { AreBases p.now proc bases }
+    requires callee { callee ≡ callee_in p.now form.now }
     requires here { slice_get p.now.procs proc ≡ Some f.now }
     requires among { proc ≤ length p.now.procs }
     requires there { statement ≤ length (stmts_in f.now.body) }
     ensures { OnOk result (AddsRules p.now rules.old.items rules.new.items (λ S. MaybeHolds p.now S (form_rule_of p.now proc f.now statement form.now number))) }
 {
-    put_rule(rules, form_rule(p, proc, first, f, statement, form, number))?;
+    put_rule(
+        rules,
+        form_rule(p, known, bases, f, statement, form, callee, number),
+    )?;
     Ok(())
 }
 
@@ -68,32 +75,35 @@ fn put_numbered(
 fn put_form(
     rules: &mut Vec<Rule>,
     p: &Program,
+    known: &[usize],
     proc: usize,
-    first: usize,
+    bases: Bases,
     f: &Proc,
     statement: usize,
     form: &Form,
 ) -> Result<(), AllocError>
-    requires start { first ≡ word (first_holder_of p.now proc) }
+    requires known { AreStarts p.now known.now }
+    requires bases { AreBases p.now proc bases }
     requires here { slice_get p.now.procs proc ≡ Some f.now }
     requires among { proc ≤ length p.now.procs }
     requires there { statement ≤ length (stmts_in f.now.body) }
     ensures { OnOk result (AddsRules p.now rules.old.items rules.new.items (λ S. (n : ℕ) → MaybeHolds p.now S (form_rule_of p.now proc f.now statement form.now n))) }
 {
-    put_numbered(rules, p, proc, first, f, statement, form, 0)?;
+    let callee = callee_of(p, form);
+    put_numbered(rules, p, known, proc, bases, f, statement, form, callee, 0)?;
     for number in 0..argument_count(form) {
-        put_numbered(rules, p, proc, first, f, statement, form, number + 1)?;
+        put_numbered(rules, p, known, proc, bases, f, statement, form, callee, number + 1)?;
     }
     Ok(())
 }
 
 /// Puts what the start asks of main's formals behind the other rules.
-fn put_formals(rules: &mut Vec<Rule>, p: &Program, proc: usize, first: usize, f: &Proc) -> Result<(), AllocError>
-    requires { first ≡ word (first_holder_of p.now proc) }
+fn put_formals(rules: &mut Vec<Rule>, p: &Program, proc: usize, bases: Bases, f: &Proc) -> Result<(), AllocError>
+    requires { AreBases p.now proc bases }
     ensures { OnOk result (AddsRules p.now rules.old.items rules.new.items (λ S. (n : ℕ) → MaybeHolds p.now S (formal_rule_of (first_holder_of p.now proc) f.now (slice_get f.now.formals n)))) }
 {
     for number in 0..f.formals.len() {
-        put_rule(rules, formal_rule(f, first, f.formals.get(number)))?;
+        put_rule(rules, formal_rule(f, bases.first, f.formals.get(number)))?;
     }
     Ok(())
 }
@@ -109,11 +119,11 @@ fn put_globals(rules: &mut Vec<Rule>, p: &Program) -> Result<(), AllocError>
 }
 
 /// Puts what the start asks for behind the other rules.
-fn put_start(rules: &mut Vec<Rule>, p: &Program, proc: usize, first: usize, f: &Proc) -> Result<(), AllocError>
-    requires { first ≡ word (first_holder_of p.now proc) }
+fn put_start(rules: &mut Vec<Rule>, p: &Program, proc: usize, bases: Bases, f: &Proc) -> Result<(), AllocError>
+    requires { AreBases p.now proc bases }
     ensures { OnOk result (AddsRules p.now rules.old.items rules.new.items (λ S. Starts p.now S proc f.now)) }
 {
-    put_formals(rules, p, proc, first, f)?;
+    put_formals(rules, p, proc, bases, f)?;
     put_globals(rules, p)?;
     Ok(())
 }
@@ -122,21 +132,23 @@ fn put_start(rules: &mut Vec<Rule>, p: &Program, proc: usize, first: usize, f: &
 fn put_statement(
     rules: &mut Vec<Rule>,
     p: &Program,
+    known: &[usize],
     proc: usize,
-    first: usize,
+    bases: Bases,
     f: &Proc,
     statement: usize,
     form: &Form,
 ) -> Result<(), AllocError>
-    requires start { first ≡ word (first_holder_of p.now proc) }
+    requires known { AreStarts p.now known.now }
+    requires bases { AreBases p.now proc bases }
     requires here { slice_get p.now.procs proc ≡ Some f.now }
     requires among { proc ≤ length p.now.procs }
     requires there { statement ≤ length (stmts_in f.now.body) }
     ensures { OnOk result (AddsRules p.now rules.old.items rules.new.items (λ S. StatementHolds p.now S proc f.now statement form.now)) }
 {
-    put_form(rules, p, proc, first, f, statement, form)?;
+    put_form(rules, p, known, proc, bases, f, statement, form)?;
     if is_start(f, statement) {
-        put_start(rules, p, proc, first, f)?;
+        put_start(rules, p, proc, bases, f)?;
     }
     Ok(())
 }
@@ -145,12 +157,14 @@ fn put_statement(
 fn put_at(
     rules: &mut Vec<Rule>,
     p: &Program,
+    known: &[usize],
     proc: usize,
-    first: usize,
+    bases: Bases,
     f: &Proc,
     statement: usize,
 ) -> Result<(), AllocError>
-    requires start { first ≡ word (first_holder_of p.now proc) }
+    requires known { AreStarts p.now known.now }
+    requires bases { AreBases p.now proc bases }
     requires here { slice_get p.now.procs proc ≡ Some f.now }
     requires among { proc ≤ length p.now.procs }
     requires there { statement ≤ length (stmts_in f.now.body) }
@@ -159,34 +173,36 @@ fn put_at(
     match statement_at(f, statement) {
         None => Ok(()),
         Some(s) => {
-            put_statement(rules, p, proc, first, f, statement, &s.form)?;
+            put_statement(rules, p, known, proc, bases, f, statement, &s.form)?;
             Ok(())
         }
     }
 }
 
 /// Puts the rules of the statements of a procedure behind the others.
-fn put_proc(rules: &mut Vec<Rule>, p: &Program, proc: usize, first: usize, f: &Proc) -> Result<(), AllocError>
-    requires start { first ≡ word (first_holder_of p.now proc) }
+fn put_proc(rules: &mut Vec<Rule>, p: &Program, known: &[usize], proc: usize, bases: Bases, f: &Proc) -> Result<(), AllocError>
+    requires known { AreStarts p.now known.now }
+    requires bases { AreBases p.now proc bases }
     requires here { slice_get p.now.procs proc ≡ Some f.now }
     requires among { proc ≤ length p.now.procs }
     ensures { OnOk result (AddsRules p.now rules.old.items rules.new.items (λ S. (k : ℕ) → HoldsIn p.now S proc f.now k)) }
 {
     for statement in 0..stmts_of(f).len() {
-        put_at(rules, p, proc, first, f, statement)?;
+        put_at(rules, p, known, proc, bases, f, statement)?;
     }
     Ok(())
 }
 
 /// Puts the rules of the statements of the procedure of that number behind the others.
-fn put_proc_at(rules: &mut Vec<Rule>, p: &Program, proc: usize) -> Result<(), AllocError>
-    requires { proc ≤ length p.now.procs }
+fn put_proc_at(rules: &mut Vec<Rule>, p: &Program, known: &[usize], proc: usize) -> Result<(), AllocError>
+    requires known { AreStarts p.now known.now }
+    requires among { proc ≤ length p.now.procs }
     ensures { OnOk result (AddsRules p.now rules.old.items rules.new.items (λ S. (k : ℕ) → HoldsAt p.now S proc k)) }
 {
     match p.procs.get(proc) {
         None => Ok(()),
         Some(f) => {
-            put_proc(rules, p, proc, first_holder(p, proc), f)?;
+            put_proc(rules, p, known, proc, bases_of(p, proc), f)?;
             Ok(())
         }
     }
@@ -196,9 +212,10 @@ fn put_proc_at(rules: &mut Vec<Rule>, p: &Program, proc: usize) -> Result<(), Al
 pub(crate) fn all_rules(alloc: Global, p: &Program) -> Result<Vec<Rule>, AllocError>
     ensures { IfOk result (λ rules. AreRules p.now rules.items) }
 {
+    let known = starts(p);
     let mut rules = Vec::new(alloc);
     for proc in 0..proc_count(p) {
-        put_proc_at(&mut rules, p, proc)?;
+        put_proc_at(&mut rules, p, known.as_slice(), proc)?;
     }
     Ok(rules)
 }

@@ -1,11 +1,12 @@
 //! The places of the sets of a family, and the sites of objects. Sums stop at the greatest number of a word, which
 //! no set and no site can have.
-ghost use Rattle.std.specs.Prelude.{◌≡◌, ◌+◌, ◌≤◌, bytes_eq, codes, length, map, slice_get, sum, take, ℕ};
+ghost use Rattle.std.specs.Prelude.{◌≡◌, ◌+◌, ◌<◌, ◌≤◌, Some, bytes_eq, codes, length, map, slice_get, sum, take, ℕ};
 ghost use Rattle.std.specs.List.{count_by, filter};
 ghost use Rattle.std.specs.Option.{option_map};
 ghost use Rattle.cv_core.specs.Names.{is_malloc as malloc_form, is_object as object, local_site as local_site_of, malloc_site as malloc_site_of, mallocs_in, objects_of, place_of, stmts_of as stmts_in};
+ghost use Rattle.cv_core.specs.declared.program.Program.{Program as ProgramValue};
 ghost use Rattle.cv_points.specs.Holders.{cell_place as place_of_cell, first_holder as first_holder_of, gives_pointer, holder_count as count_of, is_pointer_kind as pointer_kind, is_pointer_local as pointer_local, place_from, pointer_count, result_number as number_of_result, site_of as site_of_name, variable_number as number_of};
-ghost use Rattle.cv_points.specs.Walks.{word};
+ghost use Rattle.cv_points.specs.Walks.{AreBases, AreStarts, malloc_base, word};
 
 use crate::walk::{cell_number, is_object, locals_of};
 use cv_core::{
@@ -269,25 +270,89 @@ fn mallocs_before(f: &Proc, statement: usize) -> usize
     malloc_count(&stmts_of(f)[..statement])
 }
 
-/// The site of the call of malloc at a statement.
-pub(crate) fn malloc_site(p: &Program, proc: usize, f: &Proc, statement: usize) -> usize
-    requires here { slice_get p.now.procs proc ≡ Some f.now }
-    requires there { statement ≤ length (stmts_in f.now.body) }
-    ensures { result ≡ word (malloc_site_of p.now proc statement) }
+/// The site of the call of malloc at a statement, where `base` is that of the procedure's first one.
+pub(crate) fn malloc_site(f: &Proc, base: usize, statement: usize) -> usize
+    requires { statement ≤ length (stmts_in f.now.body) }
+    ensures { (p : ProgramValue) (proc : ℕ) → slice_get p.procs proc ≡ Some f.now → base ≡ word (malloc_base p proc) → result ≡ word (malloc_site_of p proc statement) }
 {
-    let before = mallocs_before(f, statement);
-    local_site(p, proc_count(p))
-        .saturating_add(earlier_mallocs(p, proc))
-        .saturating_add(before)
+    base.saturating_add(mallocs_before(f, statement))
 }
 
-/// The site of the object that a name stands for in a procedure: its own objects, then the globals and literals.
-pub(crate) fn site_of(p: &Program, proc: usize, f: &Proc, name: &[u8]) -> Option<usize>
+/// The site of the first call of malloc of the procedure of this number.
+fn first_malloc(p: &Program, proc: usize) -> usize
     requires { proc ≤ length p.now.procs }
-    ensures { result ≡ option_map word (site_of_name p.now proc f.now name.now) }
+    ensures { result ≡ word (malloc_base p.now proc) }
+{
+    local_site(p, proc_count(p)).saturating_add(earlier_mallocs(p, proc))
+}
+
+/// Where the numbers of one procedure begin.
+#[derive(Clone, Copy, PartialEq, Eq, Debug)]
+pub(crate) struct Bases {
+    /// The place of its first holder.
+    pub first: usize,
+    /// The site of its first object.
+    pub objects: usize,
+    /// The site of its first call of malloc.
+    pub mallocs: usize,
+}
+
+/// Where the numbers of the procedure begin.
+pub(crate) fn bases_of(p: &Program, proc: usize) -> Bases
+    requires { proc ≤ length p.now.procs }
+    ensures { AreBases p.now proc result }
+{
+    Bases {
+        first: first_holder(p, proc),
+        objects: local_site(p, proc),
+        mallocs: first_malloc(p, proc),
+    }
+}
+
+/// How many procedures have the place of their first holder in a table; those behind are walked to.
+pub(crate) const KNOWN: usize = 256;
+
+/// The place of the first holder of the procedure of this number; 0 where there is none.
+fn start_or_zero(p: &Program, proc: usize) -> usize
+    ensures { proc < length p.now.procs → result ≡ word (first_holder_of p.now proc) }
+{
+    if proc < proc_count(p) {
+        first_holder(p, proc)
+    } else {
+        0
+    }
+}
+
+/// The places of the first holders of the first procedures.
+pub(crate) fn starts(p: &Program) -> [usize; KNOWN]
+    ensures { AreStarts p.now result }
+{
+    let mut table = [0; KNOWN];
+    for proc in 0..KNOWN {
+        table[proc] = start_or_zero(p, proc);
+    }
+    table
+}
+
+/// The place of the first holder of the procedure of this number.
+pub(crate) fn start_of(p: &Program, known: &[usize], proc: usize) -> usize
+    requires known { AreStarts p.now known.now }
+    requires there { proc < length p.now.procs }
+    ensures { result ≡ word (first_holder_of p.now proc) }
+{
+    match known.get(proc) {
+        Some(start) => *start,
+        None => first_holder(p, proc),
+    }
+}
+
+/// The site of the object that a name stands for in a procedure: its own objects, of which the first has the site
+/// `base`, then the globals and literals.
+pub(crate) fn site_of(p: &Program, base: usize, f: &Proc, name: &[u8]) -> Option<usize>
+    ensures { (proc : ℕ) → base ≡ word (local_site_of p.now proc) → result ≡ option_map word (site_of_name p.now proc f.now name.now) }
 {
     if let Some(number) = object_number(locals_of(f), name) {
-        return Some(local_site(p, proc).saturating_add(number));
+        return Some(base.saturating_add(number));
     }
     match global_number(p.globals.as_slice(), name) {
         Some(number) => Some(number.saturating_add(1)),

@@ -1,13 +1,14 @@
 //! The rules that the statements of a program give for the sets of a family.
 ghost use Rattle.std.specs.Prelude.{◌≡◌, ◌<◌, ◌≤◌, IsTrue, Option, Some, bytes_eq, codes, length, slice_get, ℕ};
 ghost use Rattle.std.specs.Option.{option_copied, option_map};
-ghost use Rattle.cv_core.specs.Names.{malloc_site as malloc_site_of, place_of, stmts_of as stmts_in};
+ghost use Rattle.cv_core.specs.Names.{local_site as local_site_of, malloc_site as malloc_site_of, place_of, stmts_of as stmts_in};
 ghost use Rattle.cv_points.specs.Closed.{argument_count as argument_count_of, is_text_pointer as text_pointer, argument_rule as argument_rule_of, both, body_rule, call_rule as call_rule_of, called_rule as called_rule_of, numbered_rule as numbered_rule_of, form_rule as form_rule_of, formal_rule as formal_rule_of, global_rule as global_rule_of, operand_place as operand_place_of, plain_rule as plain_rule_of, place_in as place_in_of, procedure_rule as procedure_rule_of, variable_in as variable_of};
 ghost use Rattle.cv_points.specs.Holders.{first_holder as first_holder_of, site_of as site_of_name, variable_place as variable_place_of};
-ghost use Rattle.cv_points.specs.Walks.{word, word_rule};
+ghost use Rattle.cv_core.specs.declared.program.Program.{Program as ProgramValue};
+ghost use Rattle.cv_points.specs.Walks.{AreBases, AreStarts, callee_in, word, word_rule};
 
 use crate::holders::{
-    cell_place, first_holder, is_malloc_name, malloc_site, proc_number, result_place, site_of,
+    Bases, cell_place, is_malloc_name, malloc_site, proc_number, result_place, site_of, start_of,
     variable_place,
 };
 use cv_core::{AnyOperand, Bytes, Form, Formal, List, Operand, Proc, Program, VarKind};
@@ -143,6 +144,7 @@ fn numbered_rule(
 /// The rule of that number of a call of the procedure `callee`.
 fn called_rule(
     p: &Program,
+    known: &[usize],
     f: &Proc,
     first: usize,
     into: &Option<Bytes>,
@@ -150,13 +152,14 @@ fn called_rule(
     callee: usize,
     number: usize,
 ) -> Option<Rule>
+    requires { AreStarts p.now known.now }
     ensures { (a : ℕ) → first ≡ word a → result ≡ option_map word_rule (called_rule_of p.now a f.now into.now args.now callee (slice_get p.now.procs callee) number) }
 {
     match p.procs.get(callee) {
         None => None,
         Some(g) => match &g.body {
             None => None,
-            Some(_) => numbered_rule(f, first, into, args, g, first_holder(p, callee), number),
+            Some(_) => numbered_rule(f, first, into, args, g, start_of(p, known, callee), number),
         },
     }
 }
@@ -177,6 +180,7 @@ fn names_malloc(name: &Bytes) -> bool
 /// The rule of that number of a call of a procedure.
 fn procedure_rule(
     p: &Program,
+    known: &[usize],
     f: &Proc,
     first: usize,
     into: &Option<Bytes>,
@@ -184,47 +188,38 @@ fn procedure_rule(
     callee: Option<usize>,
     number: usize,
 ) -> Option<Rule>
+    requires { AreStarts p.now known.now }
     ensures { (a : ℕ) → first ≡ word a → result ≡ option_map word_rule (procedure_rule_of p.now a f.now into.now args.now callee number) }
 {
     match callee {
         None => None,
-        Some(callee) => called_rule(p, f, first, into, args, callee, number),
+        Some(callee) => called_rule(p, known, f, first, into, args, callee, number),
     }
 }
 
 /// The rule of the result of malloc.
-fn malloc_rule(
-    p: &Program,
-    proc: usize,
-    first: usize,
-    f: &Proc,
-    statement: usize,
-    into: &Option<Bytes>,
-) -> Option<Rule>
-    requires here { slice_get p.now.procs proc ≡ Some f.now }
-    requires among { proc ≤ length p.now.procs }
-    requires there { statement ≤ length (stmts_in f.now.body) }
-    ensures { (a : ℕ) → first ≡ word a → result ≡ option_map word_rule (both (λ to s. Rule.Has to s) (place_in_of a f.now into.now) (Some (malloc_site_of p.now proc statement))) }
+fn malloc_rule(bases: Bases, f: &Proc, statement: usize, into: &Option<Bytes>) -> Option<Rule>
+    requires { statement ≤ length (stmts_in f.now.body) }
+    ensures { (p : ProgramValue) (proc : ℕ) → slice_get p.procs proc ≡ Some f.now → AreBases p proc bases → result ≡ option_map word_rule (both (λ to s. Rule.Has to s) (place_in_of (first_holder_of p proc) f.now into.now) (Some (malloc_site_of p proc statement))) }
 {
     has(
-        into_place(f, first, into),
-        Some(malloc_site(p, proc, f, statement)),
+        into_place(f, bases.first, into),
+        Some(malloc_site(f, bases.mallocs, statement)),
     )
 }
 
 /// The site of the object of a name.
-fn named_site(p: &Program, proc: usize, f: &Proc, name: &Bytes) -> Option<usize>
-    requires { proc ≤ length p.now.procs }
-    ensures { result ≡ option_map word (site_of_name p.now proc f.now name.now) }
+fn named_site(p: &Program, base: usize, f: &Proc, name: &Bytes) -> Option<usize>
+    ensures { (proc : ℕ) → base ≡ word (local_site_of p.now proc) → result ≡ option_map word (site_of_name p.now proc f.now name.now) }
 {
-    site_of(p, proc, f, name.as_slice())
+    site_of(p, base, f, name.as_slice())
 }
 
 /// The rule of that number of a statement that isn't a call.
-fn plain_rule(p: &Program, proc: usize, first: usize, f: &Proc, form: &Form) -> Option<Rule>
-    requires { proc ≤ length p.now.procs }
-    ensures { first ≡ word (first_holder_of p.now proc) → result ≡ option_map word_rule (plain_rule_of p.now proc f.now form.now) }
+fn plain_rule(p: &Program, bases: Bases, f: &Proc, form: &Form) -> Option<Rule>
+    ensures { (proc : ℕ) → AreBases p.now proc bases → result ≡ option_map word_rule (plain_rule_of p.now proc f.now form.now) }
 {
+    let first = bases.first;
     match form {
         Form::CopyPtr { p: to, q } => includes(into_place(f, first, q), named_place(f, first, to)),
         Form::Shift { p: to, q, .. } => includes(
@@ -233,7 +228,7 @@ fn plain_rule(p: &Program, proc: usize, first: usize, f: &Proc, form: &Form) -> 
         ),
         Form::Address { p: to, object } => has(
             named_place(f, first, to),
-            named_site(p, proc, f, object),
+            named_site(p, bases.objects, f, object),
         ),
         Form::Get { x, w } => reads(named_place(f, first, w), named_place(f, first, x)),
         Form::Put { w, value } => writes(operand_place(f, first, value), named_place(f, first, w)),
@@ -257,21 +252,31 @@ fn plain_rule(p: &Program, proc: usize, first: usize, f: &Proc, form: &Form) -> 
     }
 }
 
-/// The rule of that number of a statement.
+/// The number of the procedure that a statement calls by its name.
+pub(crate) fn callee_of(p: &Program, form: &Form) -> Option<usize>
+    ensures { result ≡ callee_in p.now form.now }
+{
+    match form {
+        Form::Call { f, .. } => callee_number(p, f),
+        _ => None,
+    }
+}
+
+/// The rule of that number of a statement, with the procedure that it calls.
 pub(crate) fn form_rule(
     p: &Program,
-    proc: usize,
-    first: usize,
+    known: &[usize],
+    bases: Bases,
     f: &Proc,
     statement: usize,
     form: &Form,
+    callee: Option<usize>,
     number: usize,
 ) -> Option<Rule>
-    requires start { first ≡ word (first_holder_of p.now proc) }
-    requires here { slice_get p.now.procs proc ≡ Some f.now }
-    requires among { proc ≤ length p.now.procs }
+    requires known { AreStarts p.now known.now }
     requires there { statement ≤ length (stmts_in f.now.body) }
-    ensures { result ≡ option_map word_rule (form_rule_of p.now proc f.now statement form.now number) }
+    requires callee { callee ≡ callee_in p.now form.now }
+    ensures { (proc : ℕ) → slice_get p.now.procs proc ≡ Some f.now → AreBases p.now proc bases → result ≡ option_map word_rule (form_rule_of p.now proc f.now statement form.now number) }
 {
     match form {
         Form::Call {
@@ -280,12 +285,12 @@ pub(crate) fn form_rule(
             args,
         } => {
             if names_malloc(name) {
-                malloc_rule(p, proc, first, f, statement, into)
+                malloc_rule(bases, f, statement, into)
             } else {
-                procedure_rule(p, f, first, into, args, callee_number(p, name), number)
+                procedure_rule(p, known, f, bases.first, into, args, callee, number)
             }
         }
-        _ => plain_rule(p, proc, first, f, form),
+        _ => plain_rule(p, bases, f, form),
     }
 }
 

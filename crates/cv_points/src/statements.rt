@@ -5,26 +5,30 @@ ghost use Rattle.cv_core.specs.Names.{stmts_of as stmts_in};
 ghost use Rattle.cv_points.specs.Closed.{HoldsAt, HoldsIn, IsClosed, is_start as is_start_of, MaybeHolds, StatementHolds, Starts, form_rule as form_rule_of, formal_rule as formal_rule_of, global_rule as global_rule_of};
 ghost use Rattle.cv_points.specs.Holders.{first_holder as first_holder_of};
 ghost use Rattle.cv_points.specs.Missing.{Lacks};
-ghost use Rattle.cv_points.specs.Walks.{word};
+ghost use Rattle.cv_points.specs.Walks.{AreBases, AreStarts, callee_in};
 
-use crate::holders::{first_holder, proc_count, stmts_of};
+use crate::holders::Bases;
 use crate::missing::{Missing, missing_by};
-use crate::rules::{argument_count, form_rule, formal_rule, global_rule};
+use crate::rules::{argument_count, callee_of, form_rule, formal_rule, global_rule};
 use cv_core::{Form, List, Proc, Program, Stmt};
 
 /// What the rule of that number of a statement asks for.
 fn missing_by_number(
     p: &Program,
     sets: &[List<u32>],
+    known: &[usize],
     proc: usize,
-    first: usize,
+    bases: Bases,
     f: &Proc,
     statement: usize,
     form: &Form,
+    callee: Option<usize>,
     number: usize,
 ) -> Option<Missing>
+    requires callee { callee ≡ callee_in p.now form.now }
     requires counted { length sets.now < 2 ^ 64 }
-    requires start { first ≡ word (first_holder_of p.now proc) }
+    requires known { AreStarts p.now known.now }
+    requires bases { AreBases p.now proc bases }
     requires here { slice_get p.now.procs proc ≡ Some f.now }
     requires among { proc ≤ length p.now.procs }
     requires there { statement ≤ length (stmts_in f.now.body) }
@@ -33,7 +37,7 @@ fn missing_by_number(
     missing_by(
         p,
         sets,
-        form_rule(p, proc, first, f, statement, form, number),
+        form_rule(p, known, bases, f, statement, form, callee, number),
     )
 }
 
@@ -41,25 +45,28 @@ fn missing_by_number(
 fn missing_in_form(
     p: &Program,
     sets: &[List<u32>],
+    known: &[usize],
     proc: usize,
-    first: usize,
+    bases: Bases,
     f: &Proc,
     statement: usize,
     form: &Form,
 ) -> Option<Missing>
     requires counted { length sets.now < 2 ^ 64 }
-    requires start { first ≡ word (first_holder_of p.now proc) }
+    requires known { AreStarts p.now known.now }
+    requires bases { AreBases p.now proc bases }
     requires here { slice_get p.now.procs proc ≡ Some f.now }
     requires among { proc ≤ length p.now.procs }
     requires there { statement ≤ length (stmts_in f.now.body) }
     ensures { MatchOption result ((n : ℕ) → MaybeHolds p.now sets.now (form_rule_of p.now proc f.now statement form.now n)) (λ m. Lacks sets.now (λ R. (n : ℕ) → MaybeHolds p.now R (form_rule_of p.now proc f.now statement form.now n)) m.to m.site) }
 {
-    match missing_by_number(p, sets, proc, first, f, statement, form, 0) {
+    let callee = callee_of(p, form);
+    match missing_by_number(p, sets, known, proc, bases, f, statement, form, callee, 0) {
         None => {}
         Some(missing) => return Some(missing),
     }
     for number in 0..argument_count(form) {
-        match missing_by_number(p, sets, proc, first, f, statement, form, number + 1) {
+        match missing_by_number(p, sets, known, proc, bases, f, statement, form, callee, number + 1) {
             None => {}
             Some(missing) => return Some(missing),
         }
@@ -72,15 +79,15 @@ fn missing_in_formals(
     p: &Program,
     sets: &[List<u32>],
     proc: usize,
-    first: usize,
+    bases: Bases,
     f: &Proc,
 ) -> Option<Missing>
     requires counted { length sets.now < 2 ^ 64 }
-    requires start { first ≡ word (first_holder_of p.now proc) }
+    requires bases { AreBases p.now proc bases }
     ensures { MatchOption result ((n : ℕ) → MaybeHolds p.now sets.now (formal_rule_of (first_holder_of p.now proc) f.now (slice_get f.now.formals n))) (λ m. Lacks sets.now (λ R. (n : ℕ) → MaybeHolds p.now R (formal_rule_of (first_holder_of p.now proc) f.now (slice_get f.now.formals n))) m.to m.site) }
 {
     for number in 0..f.formals.len() {
-        match missing_by(p, sets, formal_rule(f, first, f.formals.get(number))) {
+        match missing_by(p, sets, formal_rule(f, bases.first, f.formals.get(number))) {
             None => {}
             Some(missing) => return Some(missing),
         }
@@ -113,14 +120,14 @@ fn missing_at_start(
     p: &Program,
     sets: &[List<u32>],
     proc: usize,
-    first: usize,
+    bases: Bases,
     f: &Proc,
 ) -> Option<Missing>
     requires counted { length sets.now < 2 ^ 64 }
-    requires start { first ≡ word (first_holder_of p.now proc) }
+    requires bases { AreBases p.now proc bases }
     ensures { MatchOption result (Starts p.now sets.now proc f.now) (λ m. Lacks sets.now (λ R. Starts p.now R proc f.now) m.to m.site) }
 {
-    match missing_in_formals(p, sets, proc, first, f) {
+    match missing_in_formals(p, sets, proc, bases, f) {
         None => missing_in_globals(p, sets),
         Some(missing) => Some(missing),
     }
@@ -137,23 +144,25 @@ pub(crate) fn is_start(f: &Proc, statement: usize) -> bool
 fn missing_at(
     p: &Program,
     sets: &[List<u32>],
+    known: &[usize],
     proc: usize,
-    first: usize,
+    bases: Bases,
     f: &Proc,
     statement: usize,
     form: &Form,
 ) -> Option<Missing>
     requires counted { length sets.now < 2 ^ 64 }
-    requires start { first ≡ word (first_holder_of p.now proc) }
+    requires known { AreStarts p.now known.now }
+    requires bases { AreBases p.now proc bases }
     requires here { slice_get p.now.procs proc ≡ Some f.now }
     requires among { proc ≤ length p.now.procs }
     requires there { statement ≤ length (stmts_in f.now.body) }
     ensures { MatchOption result (StatementHolds p.now sets.now proc f.now statement form.now) (λ m. Lacks sets.now (λ R. StatementHolds p.now R proc f.now statement form.now) m.to m.site) }
 {
-    match missing_in_form(p, sets, proc, first, f, statement, form) {
+    match missing_in_form(p, sets, known, proc, bases, f, statement, form) {
         None => {
             if is_start(f, statement) {
-                missing_at_start(p, sets, proc, first, f)
+                missing_at_start(p, sets, proc, bases, f)
             } else {
                 None
             }
@@ -176,13 +185,15 @@ pub(crate) fn statement_at(f: &Proc, statement: usize) -> Option<&Stmt>
 pub(crate) fn missing_in_statement(
     p: &Program,
     sets: &[List<u32>],
+    known: &[usize],
     proc: usize,
-    first: usize,
+    bases: Bases,
     f: &Proc,
     statement: usize,
 ) -> Option<Missing>
     requires counted { length sets.now < 2 ^ 64 }
-    requires start { first ≡ word (first_holder_of p.now proc) }
+    requires known { AreStarts p.now known.now }
+    requires bases { AreBases p.now proc bases }
     requires here { slice_get p.now.procs proc ≡ Some f.now }
     requires among { proc ≤ length p.now.procs }
     requires there { statement ≤ length (stmts_in f.now.body) }
@@ -190,55 +201,6 @@ pub(crate) fn missing_in_statement(
 {
     match statement_at(f, statement) {
         None => None,
-        Some(s) => missing_at(p, sets, proc, first, f, statement, &s.form),
+        Some(s) => missing_at(p, sets, known, proc, bases, f, statement, &s.form),
     }
-}
-
-/// What a statement of the procedure asks for.
-fn missing_in_proc(
-    p: &Program,
-    sets: &[List<u32>],
-    proc: usize,
-    first: usize,
-    f: &Proc,
-) -> Option<Missing>
-    requires counted { length sets.now < 2 ^ 64 }
-    requires start { first ≡ word (first_holder_of p.now proc) }
-    requires here { slice_get p.now.procs proc ≡ Some f.now }
-    requires among { proc ≤ length p.now.procs }
-    ensures { MatchOption result ((k : ℕ) → HoldsIn p.now sets.now proc f.now k) (λ m. Lacks sets.now (λ R. (k : ℕ) → HoldsIn p.now R proc f.now k) m.to m.site) }
-{
-    for statement in 0..stmts_of(f).len() {
-        match missing_in_statement(p, sets, proc, first, f, statement) {
-            None => {}
-            Some(missing) => return Some(missing),
-        }
-    }
-    None
-}
-
-/// What a statement of the procedure of this number asks for.
-fn missing_at_proc(p: &Program, sets: &[List<u32>], proc: usize) -> Option<Missing>
-    requires counted { length sets.now < 2 ^ 64 }
-    requires among { proc ≤ length p.now.procs }
-    ensures { MatchOption result ((k : ℕ) → HoldsAt p.now sets.now proc k) (λ m. Lacks sets.now (λ R. (k : ℕ) → HoldsAt p.now R proc k) m.to m.site) }
-{
-    match p.procs.get(proc) {
-        None => None,
-        Some(f) => missing_in_proc(p, sets, proc, first_holder(p, proc), f),
-    }
-}
-
-/// What the first statement with a rule that fails asks for.
-pub(crate) fn first_missing(p: &Program, sets: &[List<u32>]) -> Option<Missing>
-    requires { length sets.now < 2 ^ 64 }
-    ensures { MatchOption result (IsClosed p.now sets.now) (λ m. Lacks sets.now (λ R. IsClosed p.now R) m.to m.site) }
-{
-    for proc in 0..proc_count(p) {
-        match missing_at_proc(p, sets, proc) {
-            None => {}
-            Some(missing) => return Some(missing),
-        }
-    }
-    None
 }

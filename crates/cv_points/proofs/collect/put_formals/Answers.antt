@@ -11,7 +11,7 @@ pub loop-number-preserved : goal.loop-number-preserved
 loop-number-preserved c =
     let start = first_holder c.args.p.now c.args.proc in
     let r = formal_rule start c.args.f.now (slice_get c.args.f.now.formals c.loop-number.number) in
-    let e = c.formal_rule.ensures start c.requires ∙ ap (λ x. option_map word_rule (formal_rule start c.args.f.now x)) c.get.ensures.value in
+    let e = c.formal_rule.ensures start c.requires.first ∙ ap (λ x. option_map word_rule (formal_rule start c.args.f.now x)) c.get.ensures.value in
     adds_next c.args.p.now c.args.rules.now.items c.loop-number.rules.items c.put_rule.new.rules.items
     (λ (S : Family) (n : ℕ). MaybeHolds c.args.p.now S (formal_rule (first_holder c.args.p.now c.args.proc) c.args.f.now (slice_get c.args.f.now.formals n))) c.loop-number.number
     c.loop-number.invariant (c.in_ok-put_rule.ensures c.args.p.now r e)
