@@ -1,0 +1,9 @@
+use Rattle.std.proofs.Common.{◌≡◌, ◌++◌, length, map}
+use Rattle.cv_ppts.specs.Entities.{global_entity, literal_entity}
+use Rattle.cv_ppts.proofs.named.push_globals.Given as goal
+
+abbrev pub invariant-loop-rest : goal.invariant-loop-rest
+invariant-loop-rest l = l.entities.items ++ map (global_entity l.p) l.rest ≡ l.initial.entities.items ++ map (global_entity l.p) l.numbers
+
+abbrev pub decreases-loop-rest : goal.decreases-loop-rest
+decreases-loop-rest l = length l.rest

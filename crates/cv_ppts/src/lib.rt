@@ -1,0 +1,8 @@
+//! Alias cases of a procedure: the ways in which the pointers that it is entered with can have objects in common.
+#![tactic(auto)]
+
+mod entities;
+mod blocks;
+mod named;
+
+pub use entities::Class;

@@ -1,0 +1,310 @@
+//! The entities of a procedure.
+ghost use Rattle.std.specs.Prelude.{◌≡◌, ◌++◌, ◌∷◌, [], IfOk, OnOk, filter_map, map, slice_get, suc};
+ghost use Rattle.std.specs.Option.{option_copied};
+ghost use Rattle.cv_core.specs.Names.{place_of, stmts_of as stmts_in};
+ghost use Rattle.cv_points.specs.Closed.{set_at as set_of};
+ghost use Rattle.cv_points.specs.Holders.{is_pointer_kind as pointer_kind};
+ghost use Rattle.cv_ppts.specs.Entities.{class_at as class_at_of, class_of_global as class_of_global_body, class_of_kind as class_of_variable, distinct as distinct_in, formal_entities as formal_entities_of, formal_entity as formal_entity_of, global_entity as global_entity_of, global_number as global_number_of, literal_entity as literal_entity_of, literal_in as literal_number_in, listed_of as listed_in, literals_of as literals_in};
+
+use crate::blocks::is_member;
+use crate::entities::{Class, Entity};
+use cv_core::{Bytes, Form, Formal, GlobalBody, GlobalDecl, List, Literal, Proc, Program, Stmt, VarKind};
+use std::alloc::{AllocError, Global};
+
+fn is_pointer_kind(kind: VarKind) -> bool
+    ensures { result ≡ pointer_kind kind }
+{
+    matches!(kind, VarKind::Ptr | VarKind::Pptr | VarKind::Iptr)
+}
+
+/// The class of the objects to which a variable points.
+fn class_of_kind(kind: VarKind) -> Class
+    ensures { result ≡ class_of_variable kind }
+{
+    match kind {
+        VarKind::Pptr => Class::PointerCell,
+        VarKind::Iptr => Class::IntCell,
+        VarKind::Int => Class::Buffer,
+        VarKind::Char => Class::Buffer,
+        VarKind::Ptr => Class::Buffer,
+    }
+}
+
+fn class_of_global(body: GlobalBody) -> Class
+    ensures { result ≡ class_of_global_body body }
+{
+    match body {
+        GlobalBody::Buffer(_) => Class::Buffer,
+        GlobalBody::Pointer => Class::PointerCell,
+        GlobalBody::Int => Class::IntCell,
+    }
+}
+
+/// The set of the holder at a place, empty where there is none.
+pub(crate) fn set_at(sets: &[List<u32>], place: usize) -> &[u32]
+    ensures { result.now ≡ set_of sets.now place }
+{
+    match sets.get(place) {
+        None => &[],
+        Some(set) => set.as_slice(),
+    }
+}
+
+/// The entity of a pointer formal, whose set stands at a place.
+fn formal_entity(
+    alloc: Global,
+    sets: &[List<u32>],
+    place: usize,
+    kind: VarKind,
+) -> Result<Entity, AllocError>
+    ensures { IfOk result (λ e. e ≡ formal_entity_of sets.now place kind) }
+{
+    let sites = List::from_slice(alloc, set_at(sets, place))?;
+    Ok(Entity {
+        nullable: true,
+        class: class_of_kind(kind),
+        sites,
+    })
+}
+
+/// Puts the entities of the pointer formals behind others; their sets stand from `first` on.
+fn push_formals(
+    entities: &mut Vec<Entity>,
+    alloc: Global,
+    sets: &[List<u32>],
+    first: usize,
+    formals: &[Formal],
+) -> Result<(), AllocError>
+    ensures { OnOk result (entities.new.items ≡ entities.old.items ++ formal_entities_of sets.now first formals.now) }
+{
+    let mut rest = formals;
+    let mut place = first;
+    while let [formal, tail @ ..] = rest {
+        if is_pointer_kind(formal.kind) {
+            entities.push(formal_entity(alloc, sets, place, formal.kind)?)?;
+            if place == usize::MAX {
+                return Err(AllocError);
+            }
+            place += 1;
+        }
+        rest = tail;
+    }
+    Ok(())
+}
+
+/// Each number once, at its first place.
+fn distinct(alloc: Global, numbers: &[u32]) -> Result<Vec<u32>, AllocError>
+    ensures { IfOk result (λ v. v.items ≡ distinct_in numbers.now) }
+{
+    let mut seen = Vec::new(alloc);
+    let mut rest = numbers;
+    while let [number, tail @ ..] = rest {
+        if !is_member(*number, seen.as_slice()) {
+            seen.push(*number)?;
+        }
+        rest = tail;
+    }
+    Ok(seen)
+}
+
+fn global_number(p: &Program, name: &Bytes) -> Option<usize>
+    ensures { result ≡ global_number_of p.now name.now }
+{
+    let text = name.as_slice();
+    p.globals
+        .as_slice()
+        .iter()
+        .position(|g| g.name.as_slice() == text)
+}
+
+fn literal_number(literals: &[Literal], name: &[u8]) -> Option<usize>
+    ensures { result ≡ place_of (λ l. l.name) name.now literals.now }
+{
+    literals.iter().position(|l| l.name.as_slice() == name)
+}
+
+/// The number of the literal whose address a statement takes.
+fn literal_in(p: &Program, form: &Form) -> Option<usize>
+    ensures { result ≡ literal_number_in p.now form.now }
+{
+    match form {
+        Form::Address { object, .. } => literal_number(p.literals.as_slice(), object.as_slice()),
+        _ => None,
+    }
+}
+
+/// A number as 32 bits hold it; a greater one has no room in memory.
+fn narrow(number: usize) -> Result<u32, AllocError>
+    ensures { IfOk result (λ n. n ≡ number) }
+{
+    if number > 4294967295 {
+        return Err(AllocError);
+    }
+    Ok(number as u32)
+}
+
+/// The numbers of the globals that have one of the names.
+fn globals_named(alloc: Global, p: &Program, names: &[Bytes]) -> Result<Vec<u32>, AllocError>
+    ensures { IfOk result (λ v. v.items ≡ filter_map (global_number_of p.now) names.now) }
+{
+    let mut numbers = Vec::new(alloc);
+    let mut rest = names;
+    while let [name, tail @ ..] = rest {
+        match global_number(p, name) {
+            None => {}
+            Some(number) => numbers.push(narrow(number)?)?,
+        }
+        rest = tail;
+    }
+    Ok(numbers)
+}
+
+/// The numbers of the literals that statements name.
+fn literals_named(alloc: Global, p: &Program, stmts: &[Stmt]) -> Result<Vec<u32>, AllocError>
+    ensures { IfOk result (λ v. v.items ≡ filter_map (λ s. literal_number_in p.now s.form) stmts.now) }
+{
+    let mut numbers = Vec::new(alloc);
+    let mut rest = stmts;
+    while let [s, tail @ ..] = rest {
+        match literal_in(p, &s.form) {
+            None => {}
+            Some(number) => numbers.push(narrow(number)?)?,
+        }
+        rest = tail;
+    }
+    Ok(numbers)
+}
+
+/// The globals that a contract lists, by number, each once.
+pub(crate) fn listed_of(alloc: Global, p: &Program, f: &Proc) -> Result<Vec<u32>, AllocError>
+    ensures { IfOk result (λ v. v.items ≡ listed_in p.now f.now) }
+{
+    let all = globals_named(alloc, p, f.contract.listed.as_slice())?;
+    let numbers = distinct(alloc, all.as_slice())?;
+    Ok(numbers)
+}
+
+/// The statements of a procedure; none without a body.
+fn stmts_of(f: &Proc) -> &[Stmt]
+    ensures { result.now ≡ stmts_in f.now.body }
+{
+    match &f.body {
+        None => &[],
+        Some(body) => body.stmts.as_slice(),
+    }
+}
+
+/// The literals that the statements of a procedure name, by number, each once.
+fn literals_of(alloc: Global, p: &Program, f: &Proc) -> Result<Vec<u32>, AllocError>
+    ensures { IfOk result (λ v. v.items ≡ literals_in p.now f.now) }
+{
+    let all = literals_named(alloc, p, stmts_of(f))?;
+    let numbers = distinct(alloc, all.as_slice())?;
+    Ok(numbers)
+}
+
+fn class_at(global: Option<&GlobalDecl>) -> Class
+    ensures { result ≡ class_at_of (option_copied global.entry) }
+{
+    match global {
+        None => Class::Buffer,
+        Some(g) => class_of_global(g.body),
+    }
+}
+
+fn class_of_number(p: &Program, number: u32) -> Class
+    ensures { result ≡ class_at_of (slice_get p.now.globals number) }
+{
+    class_at(p.globals.get(number as usize))
+}
+
+/// The list of one site, one more than a number. A greater site than 4294967295 has no room in memory.
+fn site_after(alloc: Global, number: usize) -> Result<List<u32>, AllocError>
+    ensures { IfOk result (λ xs. xs ≡ suc number ∷ []) }
+{
+    if number >= 4294967295 {
+        return Err(AllocError);
+    }
+    let mut sites = Vec::new(alloc);
+    sites.push(number as u32 + 1)?;
+    Ok(List::from_vec(sites))
+}
+
+fn global_entity(alloc: Global, p: &Program, number: u32) -> Result<Entity, AllocError>
+    ensures { IfOk result (λ e. e ≡ global_entity_of p.now number) }
+{
+    let sites = site_after(alloc, number as usize)?;
+    Ok(Entity {
+        nullable: false,
+        class: class_of_number(p, number),
+        sites,
+    })
+}
+
+fn literal_entity(alloc: Global, p: &Program, number: u32) -> Result<Entity, AllocError>
+    ensures { IfOk result (λ e. e ≡ literal_entity_of p.now number) }
+{
+    let globals = p.globals.len();
+    if globals > 4294967295 {
+        return Err(AllocError);
+    }
+    let sites = site_after(alloc, globals + number as usize)?;
+    Ok(Entity {
+        nullable: false,
+        class: Class::Buffer,
+        sites,
+    })
+}
+
+/// Puts the entities of globals behind others.
+fn push_globals(
+    entities: &mut Vec<Entity>,
+    alloc: Global,
+    p: &Program,
+    numbers: &[u32],
+) -> Result<(), AllocError>
+    ensures { OnOk result (entities.new.items ≡ entities.old.items ++ map (global_entity_of p.now) numbers.now) }
+{
+    let mut rest = numbers;
+    while let [number, tail @ ..] = rest {
+        entities.push(global_entity(alloc, p, *number)?)?;
+        rest = tail;
+    }
+    Ok(())
+}
+
+/// Puts the entities of literals behind others.
+fn push_literals(
+    entities: &mut Vec<Entity>,
+    alloc: Global,
+    p: &Program,
+    numbers: &[u32],
+) -> Result<(), AllocError>
+    ensures { OnOk result (entities.new.items ≡ entities.old.items ++ map (literal_entity_of p.now) numbers.now) }
+{
+    let mut rest = numbers;
+    while let [number, tail @ ..] = rest {
+        entities.push(literal_entity(alloc, p, *number)?)?;
+        rest = tail;
+    }
+    Ok(())
+}
+
+/// The entities of a procedure but contents; its first holder's set stands at `first`.
+fn entities_from(
+    alloc: Global,
+    p: &Program,
+    sets: &[List<u32>],
+    first: usize,
+    f: &Proc,
+) -> Result<Vec<Entity>, AllocError>
+    ensures { IfOk result (λ v. v.items ≡ formal_entities_of sets.now first f.now.formals ++ map (global_entity_of p.now) (listed_in p.now f.now) ++ map (literal_entity_of p.now) (literals_in p.now f.now)) }
+{
+    let globals = listed_of(alloc, p, f)?;
+    let literals = literals_of(alloc, p, f)?;
+    let mut entities = Vec::new(alloc);
+    push_formals(&mut entities, alloc, sets, first, f.formals.as_slice())?;
+    push_globals(&mut entities, alloc, p, globals.as_slice())?;
+    push_literals(&mut entities, alloc, p, literals.as_slice())?;
+    Ok(entities)
+}
