@@ -1,6 +1,6 @@
 -- The entities of a procedure that an alias case gives codes: pointer formals, listed globals, named literals, and
 -- what blocks of pointer cells hold.
-use Rattle.std.specs.Prelude.{Bool, List, None, Option, Some, [], false, filter_map, flat_map, if◌then◌else◌, length, map, slice_get, suc, true, ℕ, ◌++◌, ◌+◌, ◌==◌, ◌∷◌}
+use Rattle.std.specs.Prelude.{Bool, List, None, Option, Some, [], false, flat_map, if◌then◌else◌, length, map, slice_get, suc, true, ℕ, ◌++◌, ◌+◌, ◌==◌, ◌∷◌}
 use Rattle.std.specs.List.{list_any}
 use Rattle.cv_core.specs.Names.{Name, place_of, stmts_of}
 use Rattle.cv_core.specs.declared.program.Form.{Form}
@@ -63,12 +63,16 @@ distinct_behind seen (n ∷ ns) =
 abbrev pub distinct : List ℕ → List ℕ
 distinct ns = distinct_behind [] ns
 
+abbrev pub as_list : Option ℕ → List ℕ
+as_list None = []
+as_list (Some n) = n ∷ []
+
 abbrev pub global_number : Program → Name → Option ℕ
 global_number P x = place_of (λ g. g.name) x P.globals
 
 -- the globals that the contract lists, by number, in the order of `uses`
 abbrev pub listed_of : Program → Proc → List ℕ
-listed_of P f = distinct (filter_map (global_number P) f.contract.listed)
+listed_of P f = distinct (flat_map (λ x. as_list (global_number P x)) f.contract.listed)
 
 abbrev pub class_at : Option GlobalDecl → Class
 class_at None = class.Buffer
@@ -83,7 +87,7 @@ literal_in P m = None
 
 -- the literals that the statements name, by number, in the order in which they first do
 abbrev pub literals_of : Program → Proc → List ℕ
-literals_of P f = distinct (filter_map (λ s. literal_in P s.form) (stmts_of f.body))
+literals_of P f = distinct (flat_map (λ s. as_list (literal_in P s.form)) (stmts_of f.body))
 
 abbrev pub literal_entity : Program → ℕ → Entity
 literal_entity P n = record { nullable = false; class = class.Buffer; sites = suc (length P.globals + n) ∷ [] }

@@ -1,2 +1,5 @@
 pub mod Entities
 pub mod Walk
+pub mod Allowed
+pub mod Seen
+pub mod Cases

@@ -1,17 +1,17 @@
 //! The entities of a procedure.
-ghost use Rattle.std.specs.Prelude.{◌≡◌, ◌++◌, ◌∷◌, [], IfOk, OnOk, filter_map, map, slice_get, suc};
-ghost use Rattle.std.specs.Option.{option_copied};
+ghost use Rattle.std.specs.Prelude.{◌≡◌, ◌++◌, ◌∷◌, [], IfOk, OnOk, flat_map, map, slice_get, suc};
+ghost use Rattle.std.specs.Option.{option_and_then, option_copied};
 ghost use Rattle.cv_core.specs.Names.{place_of, stmts_of as stmts_in};
 ghost use Rattle.cv_points.specs.Closed.{set_at as set_of};
 ghost use Rattle.cv_points.specs.Holders.{is_pointer_kind as pointer_kind};
-ghost use Rattle.cv_ppts.specs.Entities.{class_at as class_at_of, class_of_global as class_of_global_body, class_of_kind as class_of_variable, distinct as distinct_in, formal_entities as formal_entities_of, formal_entity as formal_entity_of, global_entity as global_entity_of, global_number as global_number_of, literal_entity as literal_entity_of, literal_in as literal_number_in, listed_of as listed_in, literals_of as literals_in};
+ghost use Rattle.cv_ppts.specs.Entities.{as_list, class_at as class_at_of, class_of_global as class_of_global_body, class_of_kind as class_of_variable, distinct as distinct_in, formal_entities as formal_entities_of, formal_entity as formal_entity_of, global_entity as global_entity_of, global_number as global_number_of, literal_entity as literal_entity_of, literal_in as literal_number_in, listed_of as listed_in, literals_of as literals_in};
 
 use crate::blocks::is_member;
 use crate::entities::{Class, Entity};
 use cv_core::{Bytes, Form, Formal, GlobalBody, GlobalDecl, List, Literal, Proc, Program, Stmt, VarKind};
 use std::alloc::{AllocError, Global};
 
-fn is_pointer_kind(kind: VarKind) -> bool
+pub(crate) fn is_pointer_kind(kind: VarKind) -> bool
     ensures { result ≡ pointer_kind kind }
 {
     matches!(kind, VarKind::Ptr | VarKind::Pptr | VarKind::Iptr)
@@ -107,7 +107,7 @@ fn distinct(alloc: Global, numbers: &[u32]) -> Result<Vec<u32>, AllocError>
     Ok(seen)
 }
 
-fn global_number(p: &Program, name: &Bytes) -> Option<usize>
+pub(crate) fn global_number(p: &Program, name: &Bytes) -> Option<usize>
     ensures { result ≡ global_number_of p.now name.now }
 {
     let text = name.as_slice();
@@ -123,12 +123,25 @@ fn literal_number(literals: &[Literal], name: &[u8]) -> Option<usize>
     literals.iter().position(|l| l.name.as_slice() == name)
 }
 
+fn literals(p: &Program) -> &[Literal]
+    ensures { result.now ≡ p.now.literals }
+{
+    p.literals.as_slice()
+}
+
+/// The number of the first literal that has the name.
+fn literal_named(p: &Program, name: &Bytes) -> Option<usize>
+    ensures { result ≡ place_of (λ l. l.name) name.now p.now.literals }
+{
+    literal_number(literals(p), name.as_slice())
+}
+
 /// The number of the literal whose address a statement takes.
 fn literal_in(p: &Program, form: &Form) -> Option<usize>
     ensures { result ≡ literal_number_in p.now form.now }
 {
     match form {
-        Form::Address { object, .. } => literal_number(p.literals.as_slice(), object.as_slice()),
+        Form::Address { object, .. } => literal_named(p, object),
         _ => None,
     }
 }
@@ -143,17 +156,27 @@ fn narrow(number: usize) -> Result<u32, AllocError>
     Ok(number as u32)
 }
 
+/// Puts a number behind others where there is one.
+fn push_number(numbers: &mut Vec<u32>, number: Option<usize>) -> Result<(), AllocError>
+    ensures { OnOk result (numbers.new.items ≡ numbers.old.items ++ as_list number) }
+{
+    match number {
+        None => Ok(()),
+        Some(number) => {
+            numbers.push(narrow(number)?)?;
+            Ok(())
+        }
+    }
+}
+
 /// The numbers of the globals that have one of the names.
 fn globals_named(alloc: Global, p: &Program, names: &[Bytes]) -> Result<Vec<u32>, AllocError>
-    ensures { IfOk result (λ v. v.items ≡ filter_map (global_number_of p.now) names.now) }
+    ensures { IfOk result (λ v. v.items ≡ flat_map (λ x. as_list (global_number_of p.now x)) names.now) }
 {
     let mut numbers = Vec::new(alloc);
     let mut rest = names;
     while let [name, tail @ ..] = rest {
-        match global_number(p, name) {
-            None => {}
-            Some(number) => numbers.push(narrow(number)?)?,
-        }
+        push_number(&mut numbers, global_number(p, name))?;
         rest = tail;
     }
     Ok(numbers)
@@ -161,15 +184,12 @@ fn globals_named(alloc: Global, p: &Program, names: &[Bytes]) -> Result<Vec<u32>
 
 /// The numbers of the literals that statements name.
 fn literals_named(alloc: Global, p: &Program, stmts: &[Stmt]) -> Result<Vec<u32>, AllocError>
-    ensures { IfOk result (λ v. v.items ≡ filter_map (λ s. literal_number_in p.now s.form) stmts.now) }
+    ensures { IfOk result (λ v. v.items ≡ flat_map (λ s. as_list (literal_number_in p.now s.form)) stmts.now) }
 {
     let mut numbers = Vec::new(alloc);
     let mut rest = stmts;
     while let [s, tail @ ..] = rest {
-        match literal_in(p, &s.form) {
-            None => {}
-            Some(number) => numbers.push(narrow(number)?)?,
-        }
+        push_number(&mut numbers, literal_in(p, &s.form))?;
         rest = tail;
     }
     Ok(numbers)
@@ -216,6 +236,16 @@ fn class_of_number(p: &Program, number: u32) -> Class
     ensures { result ≡ class_at_of (slice_get p.now.globals number) }
 {
     class_at(p.globals.get(number as usize))
+}
+
+/// The class of the global that has a name; a buffer where none has it.
+pub(crate) fn class_named(p: &Program, name: &Bytes) -> Class
+    ensures { result ≡ class_at_of (option_and_then (slice_get p.now.globals) (global_number_of p.now name.now)) }
+{
+    match global_number(p, name) {
+        None => Class::Buffer,
+        Some(number) => class_at(p.globals.get(number)),
+    }
 }
 
 /// The list of one site, one more than a number. A greater site than 4294967295 has no room in memory.
