@@ -1,9 +1,9 @@
 -- Rules put behind others: what the longer list asks for.
-use Rattle.std.proofs.Common.{refl, ℕ, zero, suc, ◌≡◌, ◌<◌, ◌≤◌, ◌+◌, List, [], ◌∷◌, ◌++◌, length, subst, sym, arith, Option, Some, None, below_more, inl, inr}
+use Rattle.std.proofs.Common.{refl, ℕ, zero, suc, ◌<◌, ◌≤◌, ◌+◌, List, [], ◌∷◌, ◌++◌, subst, arith, below_more, inl, inr}
 use Rattle.std.specs.List.{Contains}
 use Rattle.std.proofs.lemmas.Bool.{cases_lt}
 use Rattle.cv_core.specs.declared.program.Program.{Program}
-use Rattle.cv_points.specs.Closed.{Family, Holds, IsClosed, MaybeHolds}
+use Rattle.cv_points.specs.Closed.{Family, Holds, IsClosed}
 use Rattle.cv_points.specs.Growing.{AddsRules, AreRules}
 use Rattle.cv_points.specs.declared.rules.Rule.{Rule}
 

@@ -1,13 +1,12 @@
 -- Families that grow by the union of a set with another.
-use Rattle.std.proofs.Common.{◌^◌, refl, ℕ, zero, suc, ◌≡◌, ◌<◌, ◌≤◌, ◌+◌, ◌*◌, Bool, true, false, List, [], ◌∷◌, ◌++◌, length, subst, sym, ap, ◌∙◌, arith, slice_set, slice_index_or, below_more, ◌||◌, Option, Some, None}
+use Rattle.std.proofs.Common.{◌^◌, refl, ℕ, zero, suc, ◌≡◌, ◌<◌, ◌≤◌, ◌+◌, ◌*◌, Bool, true, false, List, [], ◌∷◌, length, subst, sym, ap, ◌∙◌, arith, slice_set, slice_index_or, below_more, ◌||◌, Option, Some, None}
 use Rattle.std.specs.List.{Contains}
 use Rattle.std.specs.Bool.{MatchBool}
-use Rattle.std.specs.Option.{MatchOption}
 use Rattle.std.proofs.Math.ListN.{length-set}
 use Rattle.std.proofs.lemmas.List.{get_or_default}
 use Rattle.cv_points.specs.Closed.{Family, IsSubset, IsWithin, set_at}
 use Rattle.cv_points.specs.Growing.{Grows, IsGrownAt, IsTable, Places, ReadsCell, WritesCell, place_at, total}
-use Rattle.cv_points.specs.Least.{IsAscending, IsAscendingFrom}
+use Rattle.cv_points.specs.Least.{IsAscending}
 use Rattle.cv_points.specs.Merge.{is_merged, merge}
 use Rattle.cv_points.proofs.Merged.{all_merged, ascending_merged, ascending_short, cons_cases, here, length_more, merged_subset, none}
 

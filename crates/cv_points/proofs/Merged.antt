@@ -1,11 +1,11 @@
 -- The union of two sets: what it has, that it is ascending, and how long it is.
-use Rattle.std.proofs.Common.{refl, ℕ, zero, suc, ◌≡◌, ◌<◌, ◌≤◌, ◌+◌, Bool, true, false, List, [], ◌∷◌, ◌++◌, length, subst, sym, ap, ◌∙◌, arith, if◌then◌else◌, nat_lt, not, inl, inr, ◌⊎◌}
+use Rattle.std.proofs.Common.{refl, ℕ, zero, suc, ◌≡◌, ◌<◌, ◌≤◌, ◌+◌, Bool, true, false, List, [], ◌∷◌, ◌++◌, length, subst, sym, arith, if◌then◌else◌, nat_lt, not, inl, inr}
 use Rattle.std.specs.List.{Contains}
 use Rattle.std.proofs.lemmas.Bool.{cases_lt}
 use Rattle.std.proofs.lemmas.List.{length-append}
 use borrow.Author.Tests.{ltb-true, ltb-false}
 use Rattle.cv_points.specs.Closed.{IsSubset}
-use Rattle.cv_points.specs.Least.{IsAscending, IsAscendingFrom}
+use Rattle.cv_points.specs.Least.{IsAscendingFrom}
 use Rattle.cv_points.specs.Merge.{above, below, is_merged, is_next, merge}
 
 pub here : (x : ℕ) (xs : List ℕ) → Contains (x ∷ xs) x
@@ -60,8 +60,8 @@ ascending_above x low (y ∷ ys) h =
     decided (IsAscendingFrom (suc x)) y x (above x ys) (if nat_lt x y then y ∷ ys else ys)
     (λ lt. ascending_above x (suc y) ys h.1)
     (λ ge. decided (IsAscendingFrom (suc x)) x y (y ∷ ys) ys
-      (λ lt. (omega arith, h.1))
-      (λ le. let e : y ≡ x = omega arith in subst (λ n. IsAscendingFrom (suc n) ys) e h.1))
+    (λ lt. (omega arith, h.1))
+    (λ le. let e : y ≡ x = omega arith in subst (λ n. IsAscendingFrom (suc n) ys) e h.1))
 
 ascending_joined : (x low : ℕ) (ys zs : List ℕ) → low ≤ x → IsAscendingFrom low ys → IsAscendingFrom (suc x) zs → IsAscendingFrom low (below x ys ++ x ∷ zs)
 ascending_joined x low [] zs le h k = (le, k)

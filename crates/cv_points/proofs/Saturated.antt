@@ -1,9 +1,9 @@
 -- Passes over rules until nothing is new.
-use Rattle.std.proofs.Common.{◌^◌, refl, ℕ, zero, suc, ◌≡◌, ◌<◌, ◌≤◌, ◌+◌, ◌-◌, ◌*◌, Bool, true, false, List, [], ◌∷◌, length, subst, sym, ap, ◌∙◌, arith, Option, Some}
+use Rattle.std.proofs.Common.{◌^◌, ℕ, ◌≡◌, ◌<◌, ◌≤◌, ◌-◌, ◌*◌, Bool, true, false, List, length, subst, sym, ◌∙◌, arith}
 use Rattle.std.specs.List.{Contains}
 use Rattle.std.specs.Bool.{MatchBool}
 use Rattle.cv_core.specs.declared.program.Program.{Program}
-use Rattle.cv_points.specs.Closed.{Family, Holds, IsClosed, IsSubset, IsWithin, set_at}
+use Rattle.cv_points.specs.Closed.{Family, Holds, IsWithin}
 use Rattle.cv_points.specs.Growing.{AreRules, ArePlaces, Grows, IsSaturated, IsTable, Keeps, KeepsAll, Places, total}
 use Rattle.cv_points.specs.Holders.{holders}
 use Rattle.cv_points.specs.Least.{IsAscending, IsEmptyFamily, IsLeast}

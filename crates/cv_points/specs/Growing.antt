@@ -1,7 +1,7 @@
 -- The growth of a family until it keeps a list of rules, with the places of cells in a table by site.
 use Rattle.std.specs.Prelude.{Bool, Contains, List, MatchBool, None, Option, Some, [], length, slice_index_or, true, false, suc, ℕ, ◌+◌, ◌<◌, ◌≡◌, ◌∷◌, ◌^◌}
 use Rattle.cv_core.specs.declared.program.Program.{Program}
-use Rattle.cv_points.specs.Closed.{Family, IsClosed, IsSubset, IsWithin, Holds, MaybeHolds, set_at}
+use Rattle.cv_points.specs.Closed.{Family, IsClosed, IsSubset, IsWithin, Holds, set_at}
 use Rattle.cv_points.specs.Holders.{cell_place}
 use Rattle.cv_points.specs.Least.{IsAscending}
 use Rattle.cv_points.specs.Merge.{is_merged, merge}

@@ -1,5 +1,5 @@
 -- The union of two ascending sets, by one walk over both.
-use Rattle.std.specs.Prelude.{Bool, List, [], false, if◌then◌else◌, nat_lt, not, true, ℕ, ◌&&◌, ◌++◌, ◌∷◌}
+use Rattle.std.specs.Prelude.{Bool, List, [], false, if◌then◌else◌, nat_lt, not, true, ℕ, ◌++◌, ◌∷◌}
 
 -- the sites of a set that stand before x
 abbrev pub below : ℕ → List ℕ → List ℕ

@@ -1,6 +1,6 @@
 -- The walk of the code over the objects of a program, and what a full word makes of the places.
 use Rattle.std.specs.Prelude.{Bool, List, [], if◌then◌else◌, length, map, None, Option, Some, slice_index_or, suc, sum, take, zero, ℕ, ◌∷◌, ◌+◌, ◌-◌, ◌<◌, ◌≡◌, ◌≤◌, ◌^◌, min}
-use Rattle.cv_core.specs.Names.{Name, local_site, mallocs_in, place_of, stmts_of}
+use Rattle.cv_core.specs.Names.{local_site, mallocs_in, place_of, stmts_of}
 use Rattle.cv_core.specs.declared.program.Form.{Form}
 use Rattle.cv_core.specs.declared.program.Form.TheVariants as form
 use Rattle.cv_core.specs.declared.program.Program.{Program}

@@ -58,12 +58,7 @@ fn first_open_in(
 }
 
 /// The first statement of the procedure of this number of which a rule fails.
-fn first_open_at(
-    p: &Program,
-    sets: &[List<u32>],
-    known: &[usize],
-    proc: usize,
-) -> Option<usize>
+fn first_open_at(p: &Program, sets: &[List<u32>], known: &[usize], proc: usize) -> Option<usize>
     requires counted { length sets.now < 2 ^ 64 }
     requires known { AreStarts p.now known.now }
     requires among { proc ≤ length p.now.procs }

@@ -92,13 +92,30 @@ fn put_form(
     let callee = callee_of(p, form);
     put_numbered(rules, p, known, proc, bases, f, statement, form, callee, 0)?;
     for number in 0..argument_count(form) {
-        put_numbered(rules, p, known, proc, bases, f, statement, form, callee, number + 1)?;
+        put_numbered(
+            rules,
+            p,
+            known,
+            proc,
+            bases,
+            f,
+            statement,
+            form,
+            callee,
+            number + 1,
+        )?;
     }
     Ok(())
 }
 
 /// Puts what the start asks of main's formals behind the other rules.
-fn put_formals(rules: &mut Vec<Rule>, p: &Program, proc: usize, bases: Bases, f: &Proc) -> Result<(), AllocError>
+fn put_formals(
+    rules: &mut Vec<Rule>,
+    p: &Program,
+    proc: usize,
+    bases: Bases,
+    f: &Proc,
+) -> Result<(), AllocError>
     requires { AreBases p.now proc bases }
     ensures { OnOk result (AddsRules p.now rules.old.items rules.new.items (λ S. (n : ℕ) → MaybeHolds p.now S (formal_rule_of (first_holder_of p.now proc) f.now (slice_get f.now.formals n)))) }
 {
@@ -119,7 +136,13 @@ fn put_globals(rules: &mut Vec<Rule>, p: &Program) -> Result<(), AllocError>
 }
 
 /// Puts what the start asks for behind the other rules.
-fn put_start(rules: &mut Vec<Rule>, p: &Program, proc: usize, bases: Bases, f: &Proc) -> Result<(), AllocError>
+fn put_start(
+    rules: &mut Vec<Rule>,
+    p: &Program,
+    proc: usize,
+    bases: Bases,
+    f: &Proc,
+) -> Result<(), AllocError>
     requires { AreBases p.now proc bases }
     ensures { OnOk result (AddsRules p.now rules.old.items rules.new.items (λ S. Starts p.now S proc f.now)) }
 {
@@ -180,7 +203,14 @@ fn put_at(
 }
 
 /// Puts the rules of the statements of a procedure behind the others.
-fn put_proc(rules: &mut Vec<Rule>, p: &Program, known: &[usize], proc: usize, bases: Bases, f: &Proc) -> Result<(), AllocError>
+fn put_proc(
+    rules: &mut Vec<Rule>,
+    p: &Program,
+    known: &[usize],
+    proc: usize,
+    bases: Bases,
+    f: &Proc,
+) -> Result<(), AllocError>
     requires known { AreStarts p.now known.now }
     requires bases { AreBases p.now proc bases }
     requires here { slice_get p.now.procs proc ≡ Some f.now }
@@ -194,7 +224,12 @@ fn put_proc(rules: &mut Vec<Rule>, p: &Program, known: &[usize], proc: usize, ba
 }
 
 /// Puts the rules of the statements of the procedure of that number behind the others.
-fn put_proc_at(rules: &mut Vec<Rule>, p: &Program, known: &[usize], proc: usize) -> Result<(), AllocError>
+fn put_proc_at(
+    rules: &mut Vec<Rule>,
+    p: &Program,
+    known: &[usize],
+    proc: usize,
+) -> Result<(), AllocError>
     requires known { AreStarts p.now known.now }
     requires among { proc ≤ length p.now.procs }
     ensures { OnOk result (AddsRules p.now rules.old.items rules.new.items (λ S. (k : ℕ) → HoldsAt p.now S proc k)) }

@@ -50,12 +50,7 @@ fn grown_at(
 }
 
 /// Puts a site into the set at `to`, and says whether it was new there.
-fn add(
-    alloc: Global,
-    sets: &mut Vec<List<u32>>,
-    to: usize,
-    site: usize,
-) -> Result<bool, AllocError>
+fn add(alloc: Global, sets: &mut Vec<List<u32>>, to: usize, site: usize) -> Result<bool, AllocError>
     ensures { IfOk result (λ more. Grows sets.old.items sets.new.items more (λ R. Contains (set_of R to) site)) }
 {
     if site > 4294967295 {

@@ -153,8 +153,9 @@ fn holder_count(f: &Proc) -> usize
     }
 }
 
-/// The place of the first holder of the procedure of this number.
-pub(crate) fn first_holder(p: &Program, proc: usize) -> usize
+/// The place, from 0, of the set of the first holder of the procedure of this number, or behind the last procedure that
+/// of the first pointer cell; the greatest number of a word where a word can't hold it. It takes no memory.
+pub fn first_holder(p: &Program, proc: usize) -> usize
     requires { proc ≤ length p.now.procs }
     ensures { result ≡ word (first_holder_of p.now proc) }
 {

@@ -1,4 +1,5 @@
-//! Points-to families after Andersen: whether a family of site sets is closed under the rules of a program's statements.
+//! Points-to families after Andersen: whether a family of site sets is closed under the rules of a program's
+//! statements, and the least family that is.
 #![tactic(auto)]
 
 mod check;
@@ -16,8 +17,9 @@ mod walk;
 
 pub use check::closed;
 pub use fixpoint::least;
-
+pub use holders::first_holder;
 pub use place::Place;
+pub use places::cell_places;
 
 #[cfg(test)]
 mod tests;

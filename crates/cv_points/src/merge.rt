@@ -36,11 +36,7 @@ fn is_merged(from: &[u32], to: &[u32]) -> bool
 }
 
 /// Puts the sites of a set below `site` behind `items`, and gives those above it.
-fn push_below<'a>(
-    items: &mut Vec<u32>,
-    set: &'a [u32],
-    site: u32,
-) -> Result<&'a [u32], AllocError>
+fn push_below<'a>(items: &mut Vec<u32>, set: &'a [u32], site: u32) -> Result<&'a [u32], AllocError>
     ensures { IfOk result (λ rest. (items.new.items ≡ items.old.items ++ below site set.now) × (rest.now ≡ above site set.now)) }
 {
     let mut rest = set;

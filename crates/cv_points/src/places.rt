@@ -106,7 +106,7 @@ fn number_cells(
 
 /// For each site the place of the set of its pointer cell. An error is want of memory, also where a place is
 /// greater than any place in memory.
-pub(crate) fn cell_places(alloc: Global, p: &Program) -> Result<Vec<Option<usize>>, AllocError>
+pub fn cell_places(alloc: Global, p: &Program) -> Result<Vec<Option<usize>>, AllocError>
     ensures { IfOk result (λ table. ArePlaces p.now table.items) }
 {
     let first = first_holder(p, proc_count(p));

@@ -66,7 +66,18 @@ fn missing_in_form(
         Some(missing) => return Some(missing),
     }
     for number in 0..argument_count(form) {
-        match missing_by_number(p, sets, known, proc, bases, f, statement, form, callee, number + 1) {
+        match missing_by_number(
+            p,
+            sets,
+            known,
+            proc,
+            bases,
+            f,
+            statement,
+            form,
+            callee,
+            number + 1,
+        ) {
             None => {}
             Some(missing) => return Some(missing),
         }

@@ -3,7 +3,8 @@ ghost use Rattle.cv_core.specs.Grammar.{IsContract, IsForm, IsLocal, IsLocalBody
 
 use crate::{Place, closed, least};
 use cv_core::{
-    AnyOperand, Bytes, Contract, Form, Formal, List, Local, LocalBody, Operand, Proc, ProcBody, Program, PtsTable, ResultKind, Stmt, VarKind,
+    AnyOperand, Bytes, Contract, Form, Formal, List, Local, LocalBody, Operand, Proc, ProcBody,
+    Program, PtsTable, ResultKind, Stmt, VarKind,
 };
 use std::alloc::{AllocError, Global};
 use std::test::Fail;
@@ -239,12 +240,16 @@ fn one_formal(alloc: Global) -> Result<Program, AllocError> {
 #[test]
 fn first_open_statement(rt: HostRuntime) -> Result<(), Fail> {
     let alloc = rt.alloc();
-    let empty = PtsTable {
-        sets: none(alloc),
-    };
+    let empty = PtsTable { sets: none(alloc) };
     assert_eq!(rt; closed(&program(alloc, none(alloc)), &empty), Ok(()));
     let main = one_formal(alloc)?;
-    assert_eq!(rt; closed(&main, &empty), Err(Place { proc: 0, statement: 0 }));
+    assert_eq!(rt;
+        closed(&main, &empty),
+        Err(Place {
+            proc: 0,
+            statement: 0
+        })
+    );
     let family = least(alloc, &main)?;
     assert_eq!(rt; closed(&main, &family), Ok(()));
     assert_eq!(rt; family.sets.len(), 1);
@@ -256,32 +261,106 @@ fn first_open_statement(rt: HostRuntime) -> Result<(), Fail> {
 /// that calls itself.
 fn several(alloc: Global) -> Result<Program, AllocError> {
     let mut locals = none(alloc);
-    declare(alloc, &mut locals, b"p".as_slice(), LocalBody::Var(VarKind::Ptr))?;
-    declare(alloc, &mut locals, b"q".as_slice(), LocalBody::Var(VarKind::Ptr))?;
+    declare(
+        alloc,
+        &mut locals,
+        b"p".as_slice(),
+        LocalBody::Var(VarKind::Ptr),
+    )?;
+    declare(
+        alloc,
+        &mut locals,
+        b"q".as_slice(),
+        LocalBody::Var(VarKind::Ptr),
+    )?;
     declare(alloc, &mut locals, b"c".as_slice(), LocalBody::PointerCell)?;
-    declare(alloc, &mut locals, b"w".as_slice(), LocalBody::Var(VarKind::Pptr))?;
-    declare(alloc, &mut locals, b"r".as_slice(), LocalBody::Var(VarKind::Ptr))?;
-    declare(alloc, &mut locals, b"s".as_slice(), LocalBody::Var(VarKind::Ptr))?;
+    declare(
+        alloc,
+        &mut locals,
+        b"w".as_slice(),
+        LocalBody::Var(VarKind::Pptr),
+    )?;
+    declare(
+        alloc,
+        &mut locals,
+        b"r".as_slice(),
+        LocalBody::Var(VarKind::Ptr),
+    )?;
+    declare(
+        alloc,
+        &mut locals,
+        b"s".as_slice(),
+        LocalBody::Var(VarKind::Ptr),
+    )?;
     let mut stmts = none(alloc);
-    then(&mut stmts, call(alloc, b"p".as_slice(), b"malloc".as_slice(), b"x".as_slice())?)?;
-    then(&mut stmts, call(alloc, b"q".as_slice(), b"malloc".as_slice(), b"x".as_slice())?)?;
-    then(&mut stmts, dropped(alloc, b"malloc".as_slice(), b"x".as_slice())?)?;
-    then(&mut stmts, call(alloc, b"r".as_slice(), b"copy".as_slice(), b"p".as_slice())?)?;
-    then(&mut stmts, address(alloc, b"w".as_slice(), b"c".as_slice())?)?;
+    then(
+        &mut stmts,
+        call(
+            alloc,
+            b"p".as_slice(),
+            b"malloc".as_slice(),
+            b"x".as_slice(),
+        )?,
+    )?;
+    then(
+        &mut stmts,
+        call(
+            alloc,
+            b"q".as_slice(),
+            b"malloc".as_slice(),
+            b"x".as_slice(),
+        )?,
+    )?;
+    then(
+        &mut stmts,
+        dropped(alloc, b"malloc".as_slice(), b"x".as_slice())?,
+    )?;
+    then(
+        &mut stmts,
+        call(alloc, b"r".as_slice(), b"copy".as_slice(), b"p".as_slice())?,
+    )?;
+    then(
+        &mut stmts,
+        address(alloc, b"w".as_slice(), b"c".as_slice())?,
+    )?;
     then(&mut stmts, put(alloc, b"w".as_slice(), b"r".as_slice())?)?;
     then(&mut stmts, put(alloc, b"w".as_slice(), b"q".as_slice())?)?;
     then(&mut stmts, get(alloc, b"s".as_slice(), b"w".as_slice())?)?;
     let mut procs = none(alloc);
-    define(alloc, &mut procs, ResultKind::Int, b"main".as_slice(), none(alloc), locals, stmts)?;
+    define(
+        alloc,
+        &mut procs,
+        ResultKind::Int,
+        b"main".as_slice(),
+        none(alloc),
+        locals,
+        stmts,
+    )?;
     let mut inner = none(alloc);
-    declare(alloc, &mut inner, b"t".as_slice(), LocalBody::Var(VarKind::Ptr))?;
+    declare(
+        alloc,
+        &mut inner,
+        b"t".as_slice(),
+        LocalBody::Var(VarKind::Ptr),
+    )?;
     let mut own = none(alloc);
-    then(&mut own, call(alloc, b"t".as_slice(), b"copy".as_slice(), b"a".as_slice())?)?;
+    then(
+        &mut own,
+        call(alloc, b"t".as_slice(), b"copy".as_slice(), b"a".as_slice())?,
+    )?;
     then(&mut own, copy(alloc, b"a".as_slice(), b"t".as_slice())?)?;
     then(&mut own, returned(alloc, b"t".as_slice())?)?;
     then(&mut own, returned(alloc, b"a".as_slice())?)?;
     let formals = formal(alloc, VarKind::Ptr, b"a".as_slice())?;
-    define(alloc, &mut procs, ResultKind::Ptr, b"copy".as_slice(), formals, inner, own)?;
+    define(
+        alloc,
+        &mut procs,
+        ResultKind::Ptr,
+        b"copy".as_slice(),
+        formals,
+        inner,
+        own,
+    )?;
     Ok(program(alloc, procs))
 }
 

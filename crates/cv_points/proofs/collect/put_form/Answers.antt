@@ -1,4 +1,4 @@
-use Rattle.std.proofs.Common.{ℕ, suc, ◌+◌, ◌≤◌, ◌≡◌, subst, add-one, ap, sym}
+use Rattle.std.proofs.Common.{ℕ, suc, ◌+◌, ◌≤◌, ◌≡◌, subst, add-one}
 use Rattle.cv_points.specs.Closed.{Family, MaybeHolds, argument_count, form_rule}
 use Rattle.cv_points.specs.Growing.{AddsRules}
 use Rattle.cv_points.proofs.Added.{adds_next, adds_numbers}

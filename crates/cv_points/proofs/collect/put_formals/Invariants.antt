@@ -1,5 +1,5 @@
-use Rattle.std.proofs.Common.{ℕ, suc, slice_get}
-use Rattle.cv_points.specs.Closed.{Family, HoldsAt, HoldsIn, MaybeHolds, form_rule, formal_rule, global_rule}
+use Rattle.std.proofs.Common.{ℕ, slice_get}
+use Rattle.cv_points.specs.Closed.{Family, MaybeHolds, formal_rule}
 use Rattle.cv_points.specs.Growing.{AddsRules}
 use Rattle.cv_points.specs.Holders.{first_holder}
 use Rattle.cv_points.proofs.Added.{Below}

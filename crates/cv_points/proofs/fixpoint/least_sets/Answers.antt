@@ -1,5 +1,5 @@
-use Rattle.std.proofs.Common.{◌∙◌, subst, sym}
-use Rattle.cv_points.specs.Growing.{ArePlaces, AreRules, IsSaturated}
+use Rattle.std.proofs.Common.{subst, sym}
+use Rattle.cv_points.specs.Growing.{ArePlaces, AreRules}
 use Rattle.cv_points.proofs.Saturated.{saturated_least}
 use Rattle.cv_points.proofs.fixpoint.least_sets.Goals as goal
 

@@ -1,8 +1,6 @@
-use Rattle.std.proofs.Common.{ℕ, ◌∙◌, ap, sym, subst}
+use Rattle.std.proofs.Common.{ℕ, ◌∙◌, sym, subst}
 use Rattle.cv_points.specs.Closed.{Family}
 use Rattle.cv_points.specs.Growing.{Grows, Keeps, ReadsCell, WritesCell}
-use Rattle.cv_points.specs.declared.rules.Rule.{Rule}
-use Rattle.cv_points.specs.declared.rules.Rule.TheVariants as rule
 use Rattle.cv_points.proofs.Grown.{pointed_as}
 use Rattle.cv_points.proofs.growth.apply.Goals as goal
 

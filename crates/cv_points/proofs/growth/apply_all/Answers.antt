@@ -1,4 +1,4 @@
-use Rattle.std.proofs.Common.{ℕ, arith, refl, ◌≤◌, length}
+use Rattle.std.proofs.Common.{arith, refl}
 use Rattle.cv_points.specs.Closed.{Family}
 use Rattle.cv_points.specs.Growing.{Keeps}
 use Rattle.cv_points.specs.declared.rules.Rule.{Rule}

@@ -1,4 +1,4 @@
-use Rattle.std.proofs.Common.{sym, ◌∙◌}
+use Rattle.std.proofs.Common.{sym}
 use Rattle.cv_points.proofs.Grown.{write_as}
 use Rattle.cv_points.proofs.growth.write_cell.Goals as goal
 

@@ -1,4 +1,4 @@
-use Rattle.std.proofs.Common.{ℕ, arith, refl, ◌≤◌, length}
+use Rattle.std.proofs.Common.{ℕ, arith, refl}
 use Rattle.cv_points.specs.Closed.{Family}
 use Rattle.cv_points.specs.Growing.{WritesCell}
 use Rattle.cv_points.proofs.Grown.{grows_all, grows_next}

@@ -1,4 +1,4 @@
-use Rattle.std.proofs.Common.{ℕ, zero, suc, ◌≡◌, ◌+◌, ap, sym, ◌∙◌, List, [], ◌∷◌, Some, slice_get, take, length, map, arith}
+use Rattle.std.proofs.Common.{ℕ, zero, suc, ◌≡◌, ◌+◌, ap, sym, ◌∙◌, List, [], ◌∷◌, Some, slice_get, take, arith}
 use Rattle.cv_core.specs.Names.{mallocs_in, stmts_at, stmts_of}
 use Rattle.cv_core.specs.declared.program.Proc.{Proc}
 use Rattle.cv_points.specs.Walks.{malloc_base, word}

@@ -1,5 +1,4 @@
-use Rattle.std.proofs.Common.{ℕ, zero, suc, ◌≡◌, ◌<◌, ◌≤◌, ◌+◌, arith, List, [], ◌∷◌, ap, below_more, length, refl, slice_index_or, slice_set, subst, sym, ◌∙◌, inl, inr}
-use Rattle.std.proofs.lemmas.Bool.{cases_lt}
+use Rattle.std.proofs.Common.{ℕ, zero, suc, ◌≡◌, ◌<◌, ◌+◌, arith, List, [], ◌∷◌, length, slice_index_or, slice_set, ◌∙◌}
 use Rattle.std.proofs.Math.ListN.{length-set}
 use Rattle.cv_points.specs.Holders.{first_holder}
 use Rattle.cv_points.specs.Walks.{word}

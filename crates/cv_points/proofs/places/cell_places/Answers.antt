@@ -1,4 +1,4 @@
-use Rattle.std.proofs.Common.{ℕ, ◌≡◌, ◌∙◌, ◌∷◌, ◌++◌, ap, arith, length, None, Option, Bool, List, [], subst, sym}
+use Rattle.std.proofs.Common.{ℕ, ◌≡◌, ◌∙◌, ◌∷◌, ◌++◌, ap, arith, length, None, Option, Bool, List, []}
 use Rattle.cv_points.specs.Growing.{numbered}
 use Rattle.cv_points.specs.Holders.{cells, first_holder}
 use Rattle.cv_points.specs.Walks.{word}
