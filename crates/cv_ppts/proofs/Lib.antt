@@ -1,3 +1,5 @@
+pub mod Courses
+pub mod Members
 pub mod Peeled
 pub mod Spliced
 pub mod Terms

@@ -3,3 +3,4 @@ pub mod Walk
 pub mod Allowed
 pub mod Seen
 pub mod Cases
+pub mod Listed

@@ -5,5 +5,6 @@ mod allowed;
 mod entities;
 mod blocks;
 mod named;
+mod search;
 
 pub use entities::Class;

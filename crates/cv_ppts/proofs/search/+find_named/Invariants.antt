@@ -1,0 +1,15 @@
+use Rattle.std.proofs.Common.{ℕ, List, [], ◌∷◌, ◌++◌, length}
+use Rattle.cv_ppts.specs.Cases.{go_on}
+use Rattle.cv_ppts.specs.Listed.{content_lists, named_lists}
+use Rattle.cv_ppts.specs.Walk.{after_code}
+use Rattle.cv_ppts.specs.declared.entities.Block.{Block}
+use Rattle.cv_ppts.proofs.Courses.{IsOnCourse}
+use Rattle.cv_ppts.proofs.search.+find_named.Given as goal
+
+abbrev pub decreases-find_named : goal.decreases-find_named
+decreases-find_named l = length l.entities.now
+
+abbrev pub invariant-loop-code : goal.invariant-loop-code
+invariant-loop-code l =
+    IsOnCourse l.initial.found.items l.found.items
+    (λ (k : ℕ). go_on (λ (cs : List Block). named_lists l.s.p.now l.s.sets.now l.s.f.now l.more cs (l.done ++ k ∷ [])) [] (after_code l.blocks l.entity k)) l.code
