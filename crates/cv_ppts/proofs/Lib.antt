@@ -1,4 +1,5 @@
 pub mod Courses
+pub mod Found
 pub mod Members
 pub mod Peeled
 pub mod Spliced

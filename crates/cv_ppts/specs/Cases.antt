@@ -1,11 +1,15 @@
 -- The alias cases of a procedure over a family: which lists of codes are allowed.
-use Rattle.std.specs.Prelude.{Bool, IsTrue, List, None, Option, Some, [], false, length, slice_get, suc, true, zero, ℕ, ◌++◌, ◌<◌, ◌∷◌, ◌≡◌, ◌⊎◌, nat_lt}
+use Rattle.std.specs.Prelude.{Bool, IsTrue, List, None, Option, Some, [], false, length, map, slice_get, suc, true, zero, ℕ, ◌++◌, ◌<◌, ◌∷◌, ◌≡◌, ◌⊎◌, nat_lt}
+use Rattle.std.specs.List.{Contains}
 use Rattle.cv_core.specs.declared.program.Proc.{Proc}
 use Rattle.cv_core.specs.declared.program.Program.{Program}
 use Rattle.cv_points.specs.Closed.{Family}
 use Rattle.cv_ppts.specs.Allowed.{Scene, is_allowed}
 use Rattle.cv_ppts.specs.Entities.{content_entities, listed_of, named_entities}
 use Rattle.cv_ppts.specs.Walk.{after_code}
+use Rattle.cv_ppts.specs.declared.codes.Case.{Case}
+use Rattle.cv_ppts.specs.declared.codes.CaseError.{CaseError}
+use Rattle.cv_ppts.specs.declared.codes.CaseError.TheVariants as err
 use Rattle.cv_ppts.specs.declared.entities.Block.{Block}
 use Rattle.cv_ppts.specs.declared.entities.Entity.{Entity}
 
@@ -58,3 +62,21 @@ IsBeforeAll x (y ∷ ys) = IsBefore x y × IsBeforeAll x ys
 abbrev pub AreAscending : List (List ℕ) → Type 0
 AreAscending [] = Unit {0}
 AreAscending (x ∷ xs) = IsBeforeAll x xs × AreAscending xs
+
+abbrev pub codes_of : List Case → List (List ℕ)
+codes_of cs = map (λ c. c.codes) cs
+
+-- all the cases, ascending
+pub record AreCases (P : Program) (S : Family) (i : ℕ) (lists : List (List ℕ)) : Type 0 where
+  pub each : (codes : List ℕ) → (Contains lists codes → IsCase P S i codes) × (IsCase P S i codes → Contains lists codes)
+  pub ascending : AreAscending lists
+
+-- the list of all cases has more than 64
+pub record AreTooMany (P : Program) (S : Family) (i : ℕ) : Type 0 where
+  pub lists : List (List ℕ)
+  pub all : AreCases P S i lists
+  pub many : 64 < length lists
+
+abbrev pub IsCauseOf : Program → Family → ℕ → CaseError → Type 0
+IsCauseOf P S i err.Limit = AreTooMany P S i
+IsCauseOf P S i err.Memory = Unit {0}

@@ -2,9 +2,13 @@
 #![tactic(auto)]
 
 mod allowed;
-mod entities;
 mod blocks;
+mod codes;
+mod listing;
+mod entities;
 mod named;
 mod search;
 
+pub use codes::{Case, CaseError};
+pub use listing::cases;
 pub use entities::Class;

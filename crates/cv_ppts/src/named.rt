@@ -321,7 +321,7 @@ fn push_literals(
 }
 
 /// The entities of a procedure but contents; its first holder's set stands at `first`.
-fn entities_from(
+pub(crate) fn entities_from(
     alloc: Global,
     p: &Program,
     sets: &[List<u32>],
