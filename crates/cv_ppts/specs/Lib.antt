@@ -4,3 +4,4 @@ pub mod Allowed
 pub mod Seen
 pub mod Cases
 pub mod Listed
+pub mod FirstSeen

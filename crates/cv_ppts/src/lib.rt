@@ -12,3 +12,6 @@ mod search;
 pub use codes::{Case, CaseError};
 pub use listing::cases;
 pub use entities::Class;
+
+#[cfg(test)]
+mod tests;
