@@ -52,57 +52,113 @@ fn variable(alloc: Global, letter: u8, number: u32) -> Result<AnyOperand, AllocE
     Ok(AnyOperand::Operand(Operand::Var(name(alloc, letter, number)?)))
 }
 
-/// The statements in turn: an address, a copy, a move, a put, a get, a call, a malloc and a return.
+fn address(alloc: Global, letter: u8, a: u32, object: u8, b: u32) -> Result<Form, AllocError> {
+    let p = name(alloc, letter, a)?;
+    let object = name(alloc, object, b)?;
+    Ok(Form::Address { p, object })
+}
+
+fn copy(alloc: Global, a: u32, b: u32) -> Result<Form, AllocError> {
+    let p = name(alloc, b'p', a)?;
+    let q = name(alloc, b'p', b)?;
+    Ok(Form::CopyPtr { p, q: Some(q) })
+}
+
+fn shift(alloc: Global, a: u32, b: u32) -> Result<Form, AllocError> {
+    let p = name(alloc, b'p', a)?;
+    let q = name(alloc, b'p', b)?;
+    Ok(Form::Shift { p, q, e: Operand::Number(1) })
+}
+
+fn put(alloc: Global, a: u32, b: u32) -> Result<Form, AllocError> {
+    let w = name(alloc, b'w', a)?;
+    let value = variable(alloc, b'p', b)?;
+    Ok(Form::Put { w, value })
+}
+
+fn get(alloc: Global, a: u32, b: u32) -> Result<Form, AllocError> {
+    let x = name(alloc, b'p', a)?;
+    let w = name(alloc, b'w', b)?;
+    Ok(Form::Get { x, w })
+}
+
+fn call(alloc: Global, a: u32, b: u32, callee: u32) -> Result<Form, AllocError> {
+    let mut args = List::new(alloc);
+    args.push(variable(alloc, b'p', a)?)?;
+    args.push(variable(alloc, b'p', b)?)?;
+    let into = name(alloc, b'p', b)?;
+    let f = name(alloc, b'f', callee)?;
+    Ok(Form::Call { into: Some(into), f, args })
+}
+
+fn returned(alloc: Global, a: u32) -> Result<Form, AllocError> {
+    let value = variable(alloc, b'p', a)?;
+    Ok(Form::Return(Some(value)))
+}
+
+/// The statements in turn: an address of a buffer, a copy, a move, an address of a cell, a put, a get, a call and a
+/// return.
 fn statement(alloc: Global, seed: u32, procs: u32) -> Result<Form, AllocError> {
-    let (a, b) = (seed % 40, (seed / 40) % 40);
-    Ok(match seed % 8 {
-        0 => Form::Address { p: name(alloc, b'p', a)?, object: name(alloc, b'b', b % 8)? },
-        1 => Form::CopyPtr { p: name(alloc, b'p', a)?, q: Some(name(alloc, b'p', b)?) },
-        2 => Form::Shift { p: name(alloc, b'p', a)?, q: name(alloc, b'p', b)?, e: Operand::Number(1) },
-        3 => Form::Address { p: name(alloc, b'w', a % 4)?, object: name(alloc, b'c', b % 4)? },
-        4 => Form::Put { w: name(alloc, b'w', a % 4)?, value: variable(alloc, b'p', b)? },
-        5 => Form::Get { x: name(alloc, b'p', a)?, w: name(alloc, b'w', b % 4)? },
-        6 => {
-            let mut args = List::new(alloc);
-            args.push(variable(alloc, b'p', a)?)?;
-            args.push(variable(alloc, b'p', b)?)?;
-            Form::Call { into: Some(name(alloc, b'p', b)?), f: name(alloc, b'f', seed / 8 % procs.max(1))?, args }
-        }
-        _ => Form::Return(Some(variable(alloc, b'p', a)?)),
-    })
+    let a = seed / 8 % 40;
+    let b = seed / 320 % 40;
+    match seed % 8 {
+        0 => address(alloc, b'p', a, b'b', b % 8),
+        1 => copy(alloc, a, b),
+        2 => shift(alloc, a, b),
+        3 => address(alloc, b'w', a % 4, b'c', b % 4),
+        4 => put(alloc, a % 4, b),
+        5 => get(alloc, a, b % 4),
+        6 => call(alloc, a, b, seed / 64 % procs.max(1)),
+        _ => returned(alloc, a),
+    }
+}
+
+fn declare(locals: &mut List<Local>, alloc: Global, letter: u8, count: u32, body: LocalBody) -> Result<(), AllocError> {
+    for number in 0..count {
+        let name = name(alloc, letter, number)?;
+        locals.push(Local { name, body })?;
+    }
+    Ok(())
 }
 
 fn locals(alloc: Global) -> Result<List<Local>, AllocError> {
     let mut all = List::new(alloc);
-    for number in 2..40u32 {
-        all.push(Local { name: name(alloc, b'p', number)?, body: LocalBody::Var(VarKind::Ptr) })?;
+    declare(&mut all, alloc, b'p', 40, LocalBody::Var(VarKind::Ptr))?;
+    declare(&mut all, alloc, b'w', 4, LocalBody::Var(VarKind::Pptr))?;
+    declare(&mut all, alloc, b'c', 4, LocalBody::PointerCell)?;
+    declare(&mut all, alloc, b'b', 8, LocalBody::Buffer(4))?;
+    Ok(all)
+}
+
+fn stmts(alloc: Global, first: u64, procs: u32, count: u32) -> Result<List<Stmt>, AllocError> {
+    let mut all = List::new(alloc);
+    let mut seed = first;
+    for _ in 0..count {
+        seed = seed.wrapping_mul(6364136223846793005).wrapping_add(1442695040888963407);
+        let form = statement(alloc, (seed >> 40) as u32, procs)?;
+        all.push(Stmt { line: 1, form })?;
     }
-    for number in 0..4u32 {
-        all.push(Local { name: name(alloc, b'w', number)?, body: LocalBody::Var(VarKind::Pptr) })?;
-        all.push(Local { name: name(alloc, b'c', number)?, body: LocalBody::PointerCell })?;
-    }
-    for number in 0..8u32 {
-        all.push(Local { name: name(alloc, b'b', number)?, body: LocalBody::Buffer(4) })?;
+    Ok(all)
+}
+
+fn formals(alloc: Global) -> Result<List<Formal>, AllocError> {
+    let mut all = List::new(alloc);
+    for number in 0..2u32 {
+        let name = name(alloc, b'p', number)?;
+        all.push(Formal { kind: VarKind::Ptr, name })?;
     }
     Ok(all)
 }
 
 fn procedure(alloc: Global, number: u32, procs: u32, statements: u32) -> Result<Proc, AllocError> {
-    let mut formals = List::new(alloc);
-    for formal in 0..2u32 {
-        formals.push(Formal { kind: VarKind::Ptr, name: name(alloc, b'p', formal)? })?;
-    }
-    let mut stmts = List::new(alloc);
-    let mut seed = u64::from(number) + 1;
-    for _ in 0..statements {
-        seed = seed.wrapping_mul(6364136223846793005).wrapping_add(1442695040888963407);
-        let form = statement(alloc, (seed >> 40) as u32, procs)?;
-        stmts.push(Stmt { line: 1, form })?;
-    }
+    let name = name(alloc, b'f', number)?;
+    let formals = formals(alloc)?;
+    let locals = locals(alloc)?;
+    let stmts = stmts(alloc, u64::from(number), procs, statements)?;
     Ok(Proc {
         line: 1,
         answer: ResultKind::Ptr,
-        name: name(alloc, b'f', number)?,
+        name,
         formals,
         contract: Contract {
             listed: List::new(alloc),
@@ -110,7 +166,7 @@ fn procedure(alloc: Global, number: u32, procs: u32, statements: u32) -> Result<
             changes: List::new(alloc),
             gives: List::new(alloc),
         },
-        body: Some(ProcBody { locals: locals(alloc)?, stmts }),
+        body: Some(ProcBody { locals, stmts }),
     })
 }
 

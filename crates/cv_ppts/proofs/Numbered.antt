@@ -1,14 +1,12 @@
 -- What first-seen numbers say of keys.
 use Rattle.std.proofs.Common.{refl, ℕ, zero, suc, ◌≡◌, ◌<◌, ◌≤◌, Bool, true, false, List, [], ◌∷◌, length, ap, subst, sym, ◌∙◌, arith, if◌then◌else◌, nat_eq, slice_get, Some, Option, None, inl, inr, ◌⊎◌}
+use Rattle.std.proofs.lemmas.Bool.Decides.{eqb_tells}
 use Rattle.cv_ppts.specs.FirstSeen.{seen_number, with_key}
 
 same_or_not : (a b : ℕ) → ((a ≡ b) × (nat_eq a b ≡ true)) ⊎ (nat_eq a b ≡ false)
-same_or_not zero zero = inl (refl, refl)
-same_or_not zero (suc b) = inr refl
-same_or_not (suc a) zero = inr refl
-same_or_not (suc a) (suc b) = elim (same_or_not a b) [
-  | inl (e, f) ↦ inl (ap suc e, f)
-  | inr f ↦ inr f
+same_or_not a b = elim (eqb_tells a b) [
+  | inl (e, f) ↦ inl (f, e)
+  | inr (e, f) ↦ inr e
 ]
 
 -- a number is from 1 on, and at most one more than the number of keys seen
@@ -53,8 +51,8 @@ kept_place (x ∷ xs) key zero k e = by_test (nat_eq x key)
     by_test : (b : Bool) → slice_get (if b then x ∷ xs else x ∷ with_key xs key) 0 ≡ Some k
     by_test true = e
     by_test false = e
-kept_place (x ∷ xs) key (suc n) k e = by_test (nat_eq x key)
+kept_place (x ∷ xs) key (suc n) k e = by_test (nat_eq x key) (kept_place xs key n k e)
   where
-    by_test : (b : Bool) → slice_get (if b then x ∷ xs else x ∷ with_key xs key) (suc n) ≡ Some k
-    by_test true = e
-    by_test false = kept_place xs key n k e
+    by_test : (b : Bool) → slice_get (with_key xs key) n ≡ Some k → slice_get (if b then x ∷ xs else x ∷ with_key xs key) (suc n) ≡ Some k
+    by_test true h = e
+    by_test false h = h

@@ -101,7 +101,8 @@ content_aliases = refl
 abbrev with_global : Proc
 with_global = proc (codes "f") (formal kind.Pptr w ∷ []) (contract (codes "g" ∷ []) (atom.Null (pointer.Star w) true ∷ []) []) [] []
 
-global_reached : cases_in (record { name = codes "g"; body = global.Pointer } ∷ []) [] with_global [] ((1 ∷ []) ∷ (0 ∷ []) ∷ []) ≡ (1 ∷ 1 ∷ 0 ∷ []) ∷ []
+global_reached : cases_in (record { name = codes "g"; body = global.Pointer } ∷ []) [] with_global [] ((1 ∷ []) ∷ (0 ∷ []) ∷ []) ≡
+    (1 ∷ 1 ∷ 0 ∷ []) ∷ (1 ∷ 2 ∷ 0 ∷ 0 ∷ []) ∷ (1 ∷ 2 ∷ 0 ∷ 3 ∷ []) ∷ []
 global_reached = refl
 
 -- ---- a literal that a statement names, in a procedure that changes the bytes of its formal
