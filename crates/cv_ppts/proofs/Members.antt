@@ -1,5 +1,5 @@
 -- The lists that go on from some codes are just the cases that do.
-use Rattle.std.proofs.Common.{refl, ℕ, zero, suc, ◌≡◌, ◌<◌, ◌≤◌, ◌+◌, Bool, true, false, List, [], ◌∷◌, ◌++◌, length, Option, Some, None, ap, subst, sym, ◌∙◌, arith, append_assoc, inl, inr, ◌⊎◌, if◌then◌else◌}
+use Rattle.std.proofs.Common.{refl, ℕ, zero, suc, ◌≡◌, ◌<◌, ◌≤◌, Bool, true, false, List, [], ◌∷◌, ◌++◌, length, Option, Some, None, subst, sym, ◌∙◌, arith, append_assoc, inl, inr, ◌⊎◌, if◌then◌else◌}
 use Rattle.std.specs.List.{Contains}
 use Rattle.std.specs.Prelude.{IsTrue}
 use Rattle.std.specs.Option.{option_map}
@@ -12,7 +12,7 @@ use Rattle.cv_ppts.specs.Allowed.{is_allowed}
 use Rattle.cv_ppts.specs.Cases.{AreAscending, IsBefore, IsBeforeAll, go_on, is_content_case, is_named_case, scene_of}
 use Rattle.cv_ppts.specs.Entities.{content_entities}
 use Rattle.cv_ppts.specs.Listed.{code_limit, content_lists, named_lists, over_codes}
-use Rattle.cv_ppts.specs.Walk.{after_code, at_block, before_all}
+use Rattle.cv_ppts.specs.Walk.{after_code, at_block}
 use Rattle.cv_ppts.specs.declared.entities.Block.{Block}
 use Rattle.cv_ppts.specs.declared.entities.Entity.{Entity}
 use Rattle.cv_ppts.proofs.Courses.{Lists}
@@ -187,11 +187,11 @@ content_ascending P f n (e ∷ es) bs done =
     ascending_over (λ k. go_on (λ cs. content_lists P f n es cs (done ++ k ∷ [])) [] (after_code bs e k)) (code_limit bs)
     (λ k. ascending_at (λ cs. content_lists P f n es cs (done ++ k ∷ [])) (after_code bs e k) (λ cs. content_ascending P f n es cs (done ++ k ∷ [])))
     (λ j k x y lt c d.
-      let (cs, is, a) = lists_in (λ cs. content_lists P f n es cs (done ++ j ∷ [])) (after_code bs e j) x c in
-      let (ds, si, b) = lists_in (λ cs. content_lists P f n es cs (done ++ k ∷ [])) (after_code bs e k) y d in
-      let (ks, p, h) = content_in P f n es cs (done ++ j ∷ []) x a in
-      let (ns, q, i) = content_in P f n es ds (done ++ k ∷ []) y b in
-      subst (λ v. IsBefore v y) (sym p) (subst (λ v. IsBefore ((done ++ j ∷ []) ++ ks) v) (sym q) (split_before done ks ns j k lt)))
+    let (cs, is, a) = lists_in (λ cs. content_lists P f n es cs (done ++ j ∷ [])) (after_code bs e j) x c in
+    let (ds, si, b) = lists_in (λ cs. content_lists P f n es cs (done ++ k ∷ [])) (after_code bs e k) y d in
+    let (ks, p, h) = content_in P f n es cs (done ++ j ∷ []) x a in
+    let (ns, q, i) = content_in P f n es ds (done ++ k ∷ []) y b in
+    subst (λ v. IsBefore v y) (sym p) (subst (λ v. IsBefore ((done ++ j ∷ []) ++ ks) v) (sym q) (split_before done ks ns j k lt)))
 
 pub named_ascending : (P : Program) (S : Family) (f : Proc) (es : List Entity) (bs : List Block) (done : List ℕ) → AreAscending (named_lists P S f es bs done)
 named_ascending P S f [] bs done = content_ascending P f (length done) (content_entities P S bs) bs done
@@ -199,8 +199,8 @@ named_ascending P S f (e ∷ es) bs done =
     ascending_over (λ k. go_on (λ cs. named_lists P S f es cs (done ++ k ∷ [])) [] (after_code bs e k)) (code_limit bs)
     (λ k. ascending_at (λ cs. named_lists P S f es cs (done ++ k ∷ [])) (after_code bs e k) (λ cs. named_ascending P S f es cs (done ++ k ∷ [])))
     (λ j k x y lt c d.
-      let (cs, is, a) = lists_in (λ cs. named_lists P S f es cs (done ++ j ∷ [])) (after_code bs e j) x c in
-      let (ds, si, b) = lists_in (λ cs. named_lists P S f es cs (done ++ k ∷ [])) (after_code bs e k) y d in
-      let (ks, p, h) = named_in P S f es cs (done ++ j ∷ []) x a in
-      let (ns, q, i) = named_in P S f es ds (done ++ k ∷ []) y b in
-      subst (λ v. IsBefore v y) (sym p) (subst (λ v. IsBefore ((done ++ j ∷ []) ++ ks) v) (sym q) (split_before done ks ns j k lt)))
+    let (cs, is, a) = lists_in (λ cs. named_lists P S f es cs (done ++ j ∷ [])) (after_code bs e j) x c in
+    let (ds, si, b) = lists_in (λ cs. named_lists P S f es cs (done ++ k ∷ [])) (after_code bs e k) y d in
+    let (ks, p, h) = named_in P S f es cs (done ++ j ∷ []) x a in
+    let (ns, q, i) = named_in P S f es ds (done ++ k ∷ []) y b in
+    subst (λ v. IsBefore v y) (sym p) (subst (λ v. IsBefore ((done ++ j ∷ []) ++ ks) v) (sym q) (split_before done ks ns j k lt)))

@@ -1,5 +1,5 @@
 -- What first-seen numbers say of keys.
-use Rattle.std.proofs.Common.{refl, ℕ, zero, suc, ◌≡◌, ◌<◌, ◌≤◌, Bool, true, false, List, [], ◌∷◌, length, ap, subst, sym, ◌∙◌, arith, if◌then◌else◌, nat_eq, slice_get, Some, Option, None, inl, inr, ◌⊎◌}
+use Rattle.std.proofs.Common.{refl, ℕ, zero, suc, ◌≡◌, ◌≤◌, Bool, true, false, List, [], ◌∷◌, length, ap, ◌∙◌, arith, if◌then◌else◌, nat_eq, slice_get, Some, inl, inr, ◌⊎◌}
 use Rattle.std.proofs.lemmas.Bool.Decides.{eqb_tells}
 use Rattle.cv_ppts.specs.FirstSeen.{seen_number, with_key}
 
@@ -31,10 +31,10 @@ pub key_at_number : (seen : List ℕ) (key : ℕ) → (n : ℕ) × (seen_number 
 key_at_number [] key = (0, refl, refl)
 key_at_number (k ∷ ks) key = elim (same_or_not k key) [
   | inl (e, f) ↦ (
-      0,
-      ap (λ b. if b then 1 else suc (seen_number ks key)) f,
-      ap (λ b. slice_get (if b then k ∷ ks else k ∷ with_key ks key) 0) f ∙ ap (λ x. Some x) e,
-    )
+    0,
+    ap (λ b. if b then 1 else suc (seen_number ks key)) f,
+    ap (λ b. slice_get (if b then k ∷ ks else k ∷ with_key ks key) 0) f ∙ ap (λ x. Some x) e,
+  )
   | inr f ↦
       let (n, is, at) = key_at_number ks key in (
         suc n,

@@ -1,5 +1,5 @@
 -- The first element of what is left of a list.
-use Rattle.std.proofs.Common.{refl, ℕ, suc, zero, ◌≡◌, ◌≤◌, ◌-◌, List, [], ◌∷◌, ◌++◌, length, ap, sym, ◌∙◌, take, drop, arith, slice_index_or, append_assoc}
+use Rattle.std.proofs.Common.{ℕ, suc, ◌≡◌, ◌≤◌, ◌-◌, List, [], ◌∷◌, ◌++◌, length, ap, sym, ◌∙◌, take, drop, arith, slice_index_or, append_assoc}
 use Rattle.std.specs.List.{flat_map}
 use Rattle.std.proofs.Math.Seq.{take-length}
 

@@ -1,5 +1,5 @@
 -- The list of blocks in which one was joined or opened.
-use Rattle.std.proofs.Common.{refl, ℕ, zero, suc, ◌≡◌, ◌<◌, List, [], ◌∷◌, ◌++◌, length, Option, Some, None, ap, sym, ◌∙◌, subst, take, drop, arith, slice_index_or}
+use Rattle.std.proofs.Common.{refl, ℕ, zero, suc, ◌≡◌, ◌<◌, List, [], ◌∷◌, ◌++◌, length, Option, Some, None, ap, sym, ◌∙◌, take, drop, arith, slice_index_or}
 use Rattle.std.specs.Option.{option_map}
 use Rattle.cv_ppts.specs.Walk.{at_block, before_all, joined, opened}
 use Rattle.cv_ppts.specs.declared.entities.Block.{Block}

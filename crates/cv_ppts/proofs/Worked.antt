@@ -1,5 +1,5 @@
 -- The cases of small procedures, computed.
-use Rattle.std.specs.Prelude.{ℕ, ◌≡◌, refl, Bool, true, false, List, [], ◌∷◌, codes, Option, Some, None, ℤ, pos}
+use Rattle.std.specs.Prelude.{ℕ, ◌≡◌, refl, true, false, List, [], ◌∷◌, codes, Some, None}
 use Rattle.cv_core.specs.Names.{Name}
 use Rattle.cv_core.specs.declared.program.Program.{Program}
 use Rattle.cv_core.specs.declared.program.GlobalDecl.{GlobalDecl}

@@ -1,10 +1,9 @@
 -- What the codes of an alias case say of a procedure's contract at entry.
-use Rattle.std.specs.Prelude.{Bool, List, None, Option, Some, [], drop, false, if◌then◌else◌, length, map, nat_eq, not, slice_get, slice_index_or, suc, take, true, zero, ℕ, ◌&&◌, ◌+◌, ◌||◌, position}
+use Rattle.std.specs.Prelude.{Bool, List, None, Option, Some, drop, false, if◌then◌else◌, length, nat_eq, not, slice_get, slice_index_or, suc, take, true, zero, ℕ, ◌&&◌, ◌+◌, ◌||◌, position}
 use Rattle.std.specs.List.{count_by, list_any}
 use Rattle.std.specs.Option.{option_and_then, option_map}
 use Rattle.cv_core.specs.Names.{Name, place_of}
 use Rattle.cv_core.specs.declared.program.Atom.{Atom}
-use Rattle.cv_core.specs.declared.program.Contract.{Contract}
 use Rattle.cv_core.specs.declared.program.Item.{Item}
 use Rattle.cv_core.specs.declared.program.LinPart.{LinPart}
 use Rattle.cv_core.specs.declared.program.Proc.{Proc}

@@ -1,5 +1,5 @@
 -- The lists of codes that go on from some, in ascending order, and what a search for them gives.
-use Rattle.std.specs.Prelude.{Bool, List, MatchBool, None, Option, Some, [], false, if◌then◌else◌, length, map, suc, true, zero, ℕ, ◌++◌, ◌+◌, ◌<◌, ◌≤◌, ◌∷◌, ◌≡◌}
+use Rattle.std.specs.Prelude.{Bool, List, MatchBool, [], if◌then◌else◌, length, suc, zero, ℕ, ◌++◌, ◌+◌, ◌<◌, ◌≤◌, ◌∷◌, ◌≡◌}
 use Rattle.cv_core.specs.declared.program.Proc.{Proc}
 use Rattle.cv_core.specs.declared.program.Program.{Program}
 use Rattle.cv_points.specs.Closed.{Family}

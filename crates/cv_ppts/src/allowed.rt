@@ -327,7 +327,10 @@ fn behind(codes: &[u32], count: usize) -> &[u32]
 fn literal_codes<'a>(v: &View<'a>) -> &'a [u32]
     ensures { result.now ≡ drop (length (filter (λ x. pointer_kind x.kind) v.entry.now.f.now.formals) + length v.entry.now.listed.now) (take v.entry.now.named v.entry.now.codes.now) }
 {
-    let others = behind(first(v.codes, v.named), formal_count(v.f.formals.as_slice()));
+    let others = behind(
+        first(v.codes, v.named),
+        formal_count(v.f.formals.as_slice()),
+    );
     behind(others, v.listed.len())
 }
 

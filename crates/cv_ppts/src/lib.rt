@@ -4,14 +4,14 @@
 mod allowed;
 mod blocks;
 mod codes;
-mod listing;
 mod entities;
+mod listing;
 mod named;
 mod search;
 
 pub use codes::{Case, CaseError};
-pub use listing::cases;
 pub use entities::Class;
+pub use listing::cases;
 
 #[cfg(test)]
 mod tests;

@@ -49,11 +49,7 @@ fn all_codes(
     };
     let mut found = Vec::new(alloc);
     let all = find_named(alloc, &search, entities.as_slice(), &[], &[], &mut found)?;
-    if all {
-        Ok(Some(found))
-    } else {
-        Ok(None)
-    }
+    if all { Ok(Some(found)) } else { Ok(None) }
 }
 
 /// Cases with these codes.

@@ -8,7 +8,9 @@ ghost use Rattle.cv_ppts.specs.Entities.{as_list, class_at as class_at_of, class
 
 use crate::blocks::is_member;
 use crate::entities::{Class, Entity};
-use cv_core::{Bytes, Form, Formal, GlobalBody, GlobalDecl, List, Literal, Proc, Program, Stmt, VarKind};
+use cv_core::{
+    Bytes, Form, Formal, GlobalBody, GlobalDecl, List, Literal, Proc, Program, Stmt, VarKind,
+};
 use std::alloc::{AllocError, Global};
 
 pub(crate) fn is_pointer_kind(kind: VarKind) -> bool

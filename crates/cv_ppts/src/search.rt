@@ -175,7 +175,15 @@ fn find_contents(
             None => {}
             Some(next) => {
                 let codes = with_code(alloc, done, code)?;
-                if !find_contents(alloc, s, named, more, next.as_slice(), codes.as_slice(), found)? {
+                if !find_contents(
+                    alloc,
+                    s,
+                    named,
+                    more,
+                    next.as_slice(),
+                    codes.as_slice(),
+                    found,
+                )? {
                     return Ok(false);
                 }
             }
@@ -199,7 +207,15 @@ pub(crate) fn find_named(
 {
     let [entity, more @ ..] = entities else {
         let contents = content_entities(alloc, s, blocks)?;
-        let all = find_contents(alloc, s, done.len(), contents.as_slice(), blocks, done, found)?;
+        let all = find_contents(
+            alloc,
+            s,
+            done.len(),
+            contents.as_slice(),
+            blocks,
+            done,
+            found,
+        )?;
         return Ok(all);
     };
     for code in 0..code_limit(blocks)? {

@@ -2,9 +2,7 @@ ghost use Rattle.std.specs.Prelude.{◌≡◌, ◌∷◌, [], All, IfOk, OnOk};
 ghost use Rattle.cv_core.specs.Grammar.{IsName};
 
 use crate::{Case, CaseError, cases};
-use cv_core::{
-    Contract, Formal, List, Proc, ProcBody, Program, PtsTable, ResultKind, VarKind,
-};
+use cv_core::{Contract, Formal, List, Proc, ProcBody, Program, PtsTable, ResultKind, VarKind};
 use std::alloc::{AllocError, Global};
 use std::test::Fail;
 
@@ -105,7 +103,10 @@ fn too_many(rt: HostRuntime) -> Result<(), Fail> {
     // with one formal that points nowhere the others have the partitions of four and null
     let found = cases(alloc, &p, 0, &outside(alloc, 4)?)?;
     assert_eq!(rt; found.len(), 52);
-    let is_limit = matches!(cases(alloc, &p, 0, &outside(alloc, 5)?), Err(CaseError::Limit));
+    let is_limit = matches!(
+        cases(alloc, &p, 0, &outside(alloc, 5)?),
+        Err(CaseError::Limit)
+    );
     assert!(rt; is_limit);
     Ok(())
 }

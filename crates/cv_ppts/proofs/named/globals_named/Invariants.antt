@@ -1,6 +1,6 @@
 use Rattle.std.proofs.Common.{◌≡◌, ◌++◌, length}
 use Rattle.std.specs.List.{flat_map}
-use Rattle.cv_ppts.specs.Entities.{as_list, global_number, literal_in}
+use Rattle.cv_ppts.specs.Entities.{as_list, global_number}
 use Rattle.cv_ppts.proofs.named.globals_named.Given as goal
 
 abbrev pub invariant-loop-rest : goal.invariant-loop-rest

@@ -1,5 +1,5 @@
 use Rattle.std.proofs.Common.{◌≡◌, ◌++◌, length, map}
-use Rattle.cv_ppts.specs.Entities.{global_entity, literal_entity}
+use Rattle.cv_ppts.specs.Entities.{global_entity}
 use Rattle.cv_ppts.proofs.named.push_globals.Given as goal
 
 abbrev pub invariant-loop-rest : goal.invariant-loop-rest

@@ -1,6 +1,6 @@
 use Rattle.std.proofs.Common.{ℕ, List, [], ◌∷◌, ◌++◌, length}
 use Rattle.cv_ppts.specs.Cases.{go_on}
-use Rattle.cv_ppts.specs.Listed.{content_lists, named_lists}
+use Rattle.cv_ppts.specs.Listed.{named_lists}
 use Rattle.cv_ppts.specs.Walk.{after_code}
 use Rattle.cv_ppts.specs.declared.entities.Block.{Block}
 use Rattle.cv_ppts.proofs.Courses.{IsOnCourse}

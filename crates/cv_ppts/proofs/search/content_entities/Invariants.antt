@@ -1,6 +1,5 @@
 use Rattle.std.proofs.Common.{◌≡◌, ◌++◌, length}
-use Rattle.std.specs.List.{flat_map}
-use Rattle.cv_ppts.specs.Entities.{content_entities, held}
+use Rattle.cv_ppts.specs.Entities.{content_entities}
 use Rattle.cv_ppts.proofs.search.content_entities.Given as goal
 
 abbrev pub invariant-loop-rest : goal.invariant-loop-rest
