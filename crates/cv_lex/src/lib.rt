@@ -3,8 +3,10 @@
 
 mod begin;
 mod bytes;
+mod lexer;
 mod number;
 mod quoted;
 mod token;
 
+pub use lexer::Lexer;
 pub use token::{LexFault, LexRule, Token, TokenKind};
