@@ -6,6 +6,8 @@ mod bytes;
 mod lexer;
 mod number;
 mod quoted;
+#[cfg(test)]
+mod tests;
 mod token;
 
 pub use lexer::Lexer;
