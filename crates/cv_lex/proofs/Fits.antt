@@ -1,13 +1,13 @@
 -- A token has a byte, and lies within the text.
-use Rattle.std.proofs.Common.{◌≡◌, ℕ, zero, suc, ◌+◌, ◌-◌, ◌<◌, ◌≤◌, ◌^◌, Bool, true, false, cond, not, ◌&&◌, ◌||◌, nat_eq, nat_lt, List, [], ◌∷◌, codes, length, take, drop, get_or, Option, Some, None, refl, sym, ap, subst, ◌∙◌, arith, length-drop, length-take}
+use Rattle.std.proofs.Common.{◌≡◌, ℕ, zero, suc, ◌+◌, ◌<◌, ◌≤◌, ◌^◌, Bool, true, false, cond, not, ◌&&◌, ◌||◌, nat_eq, nat_lt, List, [], ◌∷◌, codes, length, take, drop, get_or, Option, Some, None, refl, sym, ap, subst, ◌∙◌, arith, length-drop, length-take}
 use Rattle.std.proofs.lemmas.List.Folds.{length-prefix_len}
 use Rattle.std.proofs.lemmas.List.Sums.{prefix_len-le-length, take_while-cons}
 use Rattle.std.proofs.lemmas.Bool.Decides.{nat_tests}
 use Rattle.std.proofs.lemmas.Slice.Eq.{bytes_eq-Decides}
 use Rattle.std.specs.List.{list_any, list_all, take_while, prefix_len}
 use Rattle.cv_core.specs.Grammar.{is_letter, is_digit}
-use Rattle.cv_lex.specs.Bytes.{is_newline, is_word_byte, is_hex_digit, is_escape, run, begins, byte_at, value_of}
-use Rattle.cv_lex.specs.Parts.{Fits, begun, character, character_length, close_from, closes, comment, double_signs, is_plain, is_single, line_length, marked, number, part_or, plain, quote_from, quoted_text, sign, sized}
+use Rattle.cv_lex.specs.Bytes.{is_newline, is_word_byte, is_hex_digit, is_escape, run, begins, byte_at}
+use Rattle.cv_lex.specs.Parts.{Fits, begun, character_length, close_from, closes, comment, double_signs, is_plain, is_single, marked, number, part_or, plain, quote_from, sign, sized}
 use Rattle.cv_lex.specs.declared.begin.Front.{Front}
 use Rattle.cv_lex.specs.declared.begin.Front.TheVariants as front
 use Rattle.cv_lex.specs.declared.token.LexRule.{LexRule}

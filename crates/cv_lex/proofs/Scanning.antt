@@ -1,5 +1,5 @@
 -- The tokens from a place on are the first one and those behind it.
-use Rattle.std.proofs.Common.{Ok, Err, ◌≡◌, ℕ, zero, suc, ◌+◌, ◌-◌, ◌<◌, ◌≤◌, Bool, true, false, cond, List, [], ◌∷◌, length, take, drop, get_or, Option, Some, None, refl, sym, ap, subst, ◌∙◌, arith, drop-cons, length-drop, length-take}
+use Rattle.std.proofs.Common.{Ok, ◌≡◌, ℕ, zero, suc, ◌+◌, ◌-◌, ◌<◌, ◌≤◌, Bool, true, false, cond, List, [], ◌∷◌, length, take, drop, get_or, Some, None, refl, sym, ap, subst, ◌∙◌, arith, drop-cons, length-take}
 use Rattle.std.proofs.lemmas.List.{drop-drop, drop_all}
 use Rattle.std.proofs.lemmas.List.Sums.{count_by-le-length, sum_by-append}
 use Rattle.std.proofs.Math.Seq.{take-add}
@@ -11,7 +11,7 @@ use Rattle.cv_lex.specs.declared.begin.Front.{Front}
 use Rattle.cv_lex.specs.declared.begin.Front.TheVariants as front
 use Rattle.cv_lex.specs.declared.token.LexRule.{LexRule}
 use Rattle.cv_lex.specs.declared.token.TokenKind.{TokenKind}
-use Rattle.cv_lex.proofs.Fits.{begun_fits, run_opens, run_within}
+use Rattle.cv_lex.proofs.Fits.{begun_fits, run_opens}
 
 abbrev cursor : List ℕ → ℕ → Cursor
 cursor source at = record { source = source; at = at }

@@ -1,5 +1,5 @@
 -- The value of digits, cut off where it is wide.
-use Rattle.std.proofs.Common.{◌≡◌, ℕ, ◌+◌, ◌-◌, ◌*◌, ◌<◌, ◌≤◌, min, List, [], ◌∷◌, length, drop, get_or, add-one, drop-cons, refl, sym, ap, ◌∙◌, arith, ◌⊎◌, inl, inr}
+use Rattle.std.proofs.Common.{◌≡◌, ℕ, ◌+◌, ◌*◌, ◌<◌, ◌≤◌, min, List, [], ◌∷◌, length, drop, get_or, add-one, drop-cons, refl, sym, ap, ◌∙◌, arith, ◌⊎◌, inl, inr}
 use Rattle.cv_lex.specs.Bytes.{digit_value, value_behind}
 
 grows : (base n : ℕ) (ds : List ℕ) → 1 ≤ base → n ≤ value_behind base n ds

@@ -1,5 +1,5 @@
 -- Which bytes make up the tokens.
-use Rattle.std.specs.Prelude.{ℕ, ◌+◌, ◌-◌, ◌*◌, Bool, ◌&&◌, ◌||◌, not, if◌then◌else◌, nat_eq, nat_le, List, [], ◌∷◌, codes, length, get_or, take_while}
+use Rattle.std.specs.Prelude.{ℕ, ◌+◌, ◌-◌, ◌*◌, Bool, ◌&&◌, ◌||◌, if◌then◌else◌, nat_eq, nat_le, List, [], ◌∷◌, codes, length, get_or, take_while}
 use Rattle.std.specs.List.{list_any, starts_with}
 use Rattle.cv_core.specs.Grammar.{is_letter, is_digit}
 

@@ -1,6 +1,6 @@
 -- What the lexer gives.
-use Rattle.std.specs.Prelude.{◌≡◌, ℕ, ◌+◌, ◌≤◌, List, take, drop, length, Option, Some, None, Result, Ok, Err}
-use Rattle.cv_lex.specs.Tokens.{Cursor, Piece}
+use Rattle.std.specs.Prelude.{◌≡◌, ℕ, ◌+◌, List, take, drop, length, Option, Some, None, Result, Ok, Err}
+use Rattle.cv_lex.specs.Tokens.{Piece}
 use Rattle.cv_lex.specs.declared.token.Token.{Token}
 use Rattle.cv_lex.specs.declared.token.LexFault.{LexFault}
 

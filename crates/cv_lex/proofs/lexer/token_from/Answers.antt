@@ -1,7 +1,7 @@
-use Rattle.std.proofs.Common.{◌≡◌, ◌+◌, ◌≤◌, ap, sym, arith}
+use Rattle.std.proofs.Common.{ap, sym, arith}
 use Rattle.cv_lex.specs.Given.{piece_of}
 use Rattle.cv_lex.specs.Tokens.{Piece, first_answer}
-use Rattle.cv_lex.proofs.Scanning.{Behind, none_left, fault_due, answer_due, rest_due}
+use Rattle.cv_lex.proofs.Scanning.{none_left, fault_due, answer_due, rest_due}
 use Rattle.cv_lex.proofs.lexer.token_from.Goals as goal
 
 pub returns-then-source-at-clause-answer : goal.returns-then-source-at-clause-answer
