@@ -2,3 +2,14 @@ pub mod Grammar
 pub mod Names
 pub mod Terms
 pub mod Chars
+pub mod Limits
+pub mod Meant
+pub mod Kinds
+pub mod Named
+pub mod ContractForm
+pub mod Headings
+pub mod Doubles
+pub mod Shape
+pub mod WellFormed
+pub mod Worked
+pub mod Tables

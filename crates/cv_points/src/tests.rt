@@ -3,8 +3,8 @@ ghost use Rattle.cv_core.specs.Grammar.{IsContract, IsForm, IsLocal, IsLocalBody
 
 use crate::{Place, closed, least};
 use cv_core::{
-    AnyOperand, Bytes, Contract, Form, Formal, List, Local, LocalBody, Operand, Proc, ProcBody,
-    Program, PtsTable, ResultKind, Stmt, VarKind,
+    AnyOperand, Bytes, Contract, Form, Formal, List, Literal, Local, LocalBody, Operand, Proc,
+    ProcBody, Program, PtsTable, ResultKind, Stmt, VarKind,
 };
 use std::alloc::{AllocError, Global};
 use std::test::Fail;
@@ -394,5 +394,144 @@ fn number_that_is_no_site(rt: HostRuntime) -> Result<(), Fail> {
         sets.push(List::from_slice(alloc, &[1u32, 2, 3, 99])?)?;
     }
     assert_eq!(rt; closed(&program, &PtsTable { sets }), Ok(()));
+    Ok(())
+}
+
+/// `p = p + 1;`
+fn shift(alloc: Global, p: &[u8]) -> Result<Form, AllocError>
+    requires { IsName p.now }
+    ensures { IfOk result IsForm }
+{
+    let to = name(alloc, p)?;
+    let from = name(alloc, p)?;
+    Ok(Form::Shift {
+        p: to,
+        q: from,
+        e: Operand::Number(1),
+    })
+}
+
+/// `call f(one, other);`
+fn call_two(alloc: Global, f: &[u8], one: &[u8], other: &[u8]) -> Result<Form, AllocError>
+    requires callee { IsName f.now }
+    requires first { IsName one.now }
+    requires second { IsName other.now }
+    ensures { IfOk result IsForm }
+{
+    let callee = name(alloc, f)?;
+    let mut args = none(alloc);
+    args.push(variable(alloc, one)?)?;
+    args.push(variable(alloc, other)?)?;
+    Ok(Form::Call {
+        into: None,
+        f: callee,
+        args,
+    })
+}
+
+/// Puts a `ptr` formal behind others.
+fn put_formal(alloc: Global, formals: &mut List<Formal>, text: &[u8]) -> Result<(), AllocError>
+    requires earlier { All (λ x. IsName x.name) formals.old }
+    requires named { IsName text.now }
+    ensures { OnOk result (All (λ x. IsName x.name) formals.new) }
+{
+    let name = List::from_slice(alloc, text)?;
+    formals.push(Formal {
+        kind: VarKind::Ptr,
+        name,
+    })?;
+    Ok(())
+}
+
+/// The program with the literal $s1 and these procedures.
+fn with_literal(alloc: Global, procs: List<Proc>) -> Result<Program, AllocError>
+    requires { All IsProc procs }
+{
+    let text = name(alloc, b"$s1".as_slice())?;
+    let bytes = name(alloc, b"hello".as_slice())?;
+    let mut literals = none(alloc);
+    literals.push(Literal { name: text, bytes })?;
+    Ok(Program {
+        globals: none(alloc),
+        literals,
+        procs,
+    })
+}
+
+/// `copy(d, s)`, which moves both, and main, which calls it with its buffer and the literal.
+fn copies_literal(alloc: Global) -> Result<Program, AllocError> {
+    let mut formals = none(alloc);
+    put_formal(alloc, &mut formals, b"d".as_slice())?;
+    put_formal(alloc, &mut formals, b"s".as_slice())?;
+    let mut stmts = none(alloc);
+    then(&mut stmts, shift(alloc, b"d".as_slice())?)?;
+    then(&mut stmts, shift(alloc, b"s".as_slice())?)?;
+    let mut procs = none(alloc);
+    define(
+        alloc,
+        &mut procs,
+        ResultKind::Void,
+        b"copy".as_slice(),
+        formals,
+        none(alloc),
+        stmts,
+    )?;
+    let mut locals = none(alloc);
+    declare(alloc, &mut locals, b"a".as_slice(), LocalBody::Buffer(8))?;
+    declare(
+        alloc,
+        &mut locals,
+        b"$1".as_slice(),
+        LocalBody::Var(VarKind::Ptr),
+    )?;
+    declare(
+        alloc,
+        &mut locals,
+        b"$2".as_slice(),
+        LocalBody::Var(VarKind::Ptr),
+    )?;
+    let mut body = none(alloc);
+    then(
+        &mut body,
+        address(alloc, b"$1".as_slice(), b"a".as_slice())?,
+    )?;
+    then(
+        &mut body,
+        address(alloc, b"$2".as_slice(), b"$s1".as_slice())?,
+    )?;
+    then(
+        &mut body,
+        call_two(
+            alloc,
+            b"copy".as_slice(),
+            b"$1".as_slice(),
+            b"$2".as_slice(),
+        )?,
+    )?;
+    define(
+        alloc,
+        &mut procs,
+        ResultKind::Int,
+        b"main".as_slice(),
+        none(alloc),
+        locals,
+        body,
+    )?;
+    let program = with_literal(alloc, procs)?;
+    Ok(program)
+}
+
+#[test]
+fn buffer_and_literal(rt: HostRuntime) -> Result<(), Fail> {
+    let alloc = rt.alloc();
+    let program = copies_literal(alloc)?;
+    let family = least(alloc, &program)?;
+    assert_eq!(rt; closed(&program, &family), Ok(()));
+    // the literal has the site 1 and main's buffer 2; first copy's d and s, then main's pointers
+    assert_eq!(rt; family.sets.len(), 4);
+    assert!(rt; is_set(&family, 0, &[2]));
+    assert!(rt; is_set(&family, 1, &[1]));
+    assert!(rt; is_set(&family, 2, &[2]));
+    assert!(rt; is_set(&family, 3, &[1]));
     Ok(())
 }

@@ -1,3 +1,6 @@
 pub mod Reading
 pub mod Phrase
 pub mod Fault
+pub mod Lists
+pub mod Deep
+pub mod Levels

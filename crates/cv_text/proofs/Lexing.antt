@@ -93,11 +93,11 @@ lexemes_open (c ∷ cs) = opens (past_blanks (c ∷ cs)) (let len : length (past
 
 -- ---- blanks
 
-run_opens : (test : ℕ → Bool) (c : ℕ) (cs : List ℕ) (b : Bool) → test c ≡ b → run test (c ∷ cs) ≡ cond b (suc (run test cs)) 0
+pub run_opens : (test : ℕ → Bool) (c : ℕ) (cs : List ℕ) (b : Bool) → test c ≡ b → run test (c ∷ cs) ≡ cond b (suc (run test cs)) 0
 run_opens test c cs true h = ap length (take_while-cons test c cs) ∙ ap (λ (b : Bool). length (cond b (c ∷ take_while test cs) [])) h
 run_opens test c cs false h = ap length (take_while-cons test c cs) ∙ ap (λ (b : Bool). length (cond b (c ∷ take_while test cs) [])) h
 
-no_blank_left : (text : List ℕ) → begins_blank (past_blanks text) ≡ false
+pub no_blank_left : (text : List ℕ) → begins_blank (past_blanks text) ≡ false
 no_blank_left [] = refl
 no_blank_left (c ∷ cs) = by_test (no_blank_left cs) (is_blank c) refl
   where
@@ -133,7 +133,7 @@ stands text at n h e =
 
 -- ---- what is found in a text is within it
 
-found_passes : {X : Type 0} (p : X → Bool) (xs : List X) (x : X) → find p xs ≡ Some x → p x ≡ true
+pub found_passes : {X : Type 0} (p : X → Bool) (xs : List X) (x : X) → find p xs ≡ Some x → p x ≡ true
 found_passes p [] x h = absurd cc
 found_passes {X} p (y ∷ ys) x h = by_test (λ k. found_passes p ys x k) (p y) refl h
   where

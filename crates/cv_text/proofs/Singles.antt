@@ -84,7 +84,7 @@ same_sign s t h = let e : Some s ≡ Some t = sym (sign_back s) ∙ ap sign_of h
 
 -- ---- the one token
 
-only_name : (x : List ℕ) (t : Lexeme) → is_name_token x t ≡ true → t ≡ name x
+pub only_name : (x : List ℕ) (t : Lexeme) → is_name_token x t ≡ true → t ≡ name x
 only_name x (name y) h = ap name (bytes_same y x h)
 only_name x (word k) h = absurd cc
 only_name x (digits ds) h = absurd cc
@@ -121,7 +121,7 @@ pub reads_semicolon : Reads semicolon (Only (mark sign.Semicolon))
 unfolding semicolon
 reads_semicolon = reads_the_mark sign.Semicolon
 
-named_is : (t : Lexeme) (x : List ℕ) → named t ≡ Some x → t ≡ name x
+pub named_is : (t : Lexeme) (x : List ℕ) → named t ≡ Some x → t ≡ name x
 named_is (name y) x h = ap name (let k : y ≡ x = cc in k)
 named_is (word k) x h = absurd cc
 named_is (digits ds) x h = absurd cc
@@ -143,7 +143,7 @@ kept_is : (b : Bool) (v n : ℕ) → kept b v ≡ Some n → (b ≡ true) × (v 
 kept_is true v n h = (refl, cc)
 kept_is false v n h = absurd cc
 
-within_is : (low high : ℕ) (t : Lexeme) (n : ℕ) (text : Line) → within low high t ≡ Some n → one t text → DigitsWithin low high n text
+pub within_is : (low high : ℕ) (t : Lexeme) (n : ℕ) (text : Line) → within low high t ≡ Some n → one t text → DigitsWithin low high n text
 within_is low high (digits ds) n text h is =
     let k = kept_is (leb low (value_of ds) && ltb (value_of ds) high) (value_of ds) n h in
     let b = both_true (leb low (value_of ds)) (ltb (value_of ds) high) k.0 in
@@ -153,7 +153,7 @@ within_is low high (word k) n text h is = absurd cc
 within_is low high (mark s) n text h is = absurd cc
 within_is low high other n text h is = absurd cc
 
-within_back : (low high n : ℕ) (ds : List ℕ) → value_of ds ≡ n → low ≤ n → n < high → within low high (digits ds) ≡ Some n
+pub within_back : (low high n : ℕ) (ds : List ℕ) → value_of ds ≡ n → low ≤ n → n < high → within low high (digits ds) ≡ Some n
 within_back low high n ds e h k = ap (λ (i : ℕ). kept (leb low i && ltb i high) i) e ∙ rw (le-leb low n h, lt-ltb n high k) refl
 
 pub reads_digits : (low high : ℕ) (ds : List ℕ) → low ≤ value_of ds → value_of ds < high → Reads (digits_within low high) (DigitsWithin low high)

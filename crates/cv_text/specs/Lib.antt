@@ -2,6 +2,7 @@ pub mod Spelling
 pub mod Tokens
 pub mod Grammar
 pub mod Clauses
+pub mod Levels
 pub mod Whole
 pub mod Narrow
 pub mod Seen
@@ -9,3 +10,16 @@ pub mod Reader
 pub mod Given
 pub mod NarrowReader
 pub mod WholeParts
+pub mod PrintedContract
+pub mod Printed
+pub mod Printable
+pub mod Known
+pub mod StatementReader
+pub mod DeclarationReader
+pub mod Nested
+pub mod ContractReader
+pub mod ProgramReader
+pub mod Lines
+pub mod CoreText
+pub mod Readings
+pub mod ContractAnswers

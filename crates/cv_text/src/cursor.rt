@@ -97,7 +97,7 @@ fn value_up_to_wide(digits: &[u8]) -> u64
 }
 
 /// The value of digits, where it is from `low` up to below `high`.
-fn value_within(digits: &[u8], low: u32, high: u32) -> Option<u32>
+pub(crate) fn value_within(digits: &[u8], low: u32, high: u32) -> Option<u32>
     ensures { result ≡ reader.within low high (digits_token digits.now) }
 {
     let value = value_up_to_wide(digits);
@@ -123,7 +123,7 @@ pub fn digits_within(text: &[u8], at: usize, low: u32, high: u32) -> Result<(u32
     Err(ReadError::Fault(at))
 }
 
-const LIMIT: u32 = 2147483648;
+pub(crate) const LIMIT: u32 = 2147483648;
 
 /// The number of a line or a jump that has to stand next, and the place behind it.
 #[tactic(auto, unfolding(crate::specs::Reader::count))]

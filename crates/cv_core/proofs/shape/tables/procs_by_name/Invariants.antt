@@ -1,0 +1,13 @@
+use Rattle.std.proofs.Common.{◌≡◌, ◌≤◌, length, drop}
+use Rattle.std.specs.List.{find}
+use Rattle.std.specs.Option.{option_map, option_copied}
+use Rattle.std.specs.Str.{bytes_eq}
+use Rattle.cv_core.specs.Names.{Name}
+use Rattle.cv_core.specs.Tables.{at_name}
+use Rattle.cv_core.proofs.shape.tables.procs_by_name.Given as goal
+
+abbrev pub invariant-loop-at : goal.invariant-loop-at
+invariant-loop-at l = record { within : l.at ≤ length l.procs; found : (x : Name) → option_copied (at_name l.map x) ≡ option_map (λ g. g) (find (λ g. bytes_eq g.name x) (drop l.at l.procs)) }
+
+abbrev pub decreases-loop-at : goal.decreases-loop-at
+decreases-loop-at l = l.at

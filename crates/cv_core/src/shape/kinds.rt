@@ -1,0 +1,420 @@
+//! The kinds that statements ask of what they name, and the number of arguments of a call.
+ghost use Rattle.std.specs.Prelude.{◌≡◌, ◌&&◌, length, map};
+ghost use Rattle.std.specs.Option.{option_copied};
+ghost use Rattle.cv_core.specs.Kinds.{calls as calls_of, compares as compares_of, copies as copies_of, counts as counts_of, has_count as has_count_of, has_kinds as has_kinds_of, held_by as held_by_of, is_char_operand as char_operand, is_equality as equality, is_iptr_operand as iptr_operand, is_number_operand as number_operand, is_pptr_operand as pptr_operand, is_ptr_operand as ptr_operand, means_char as char_meant, means_int as int_meant, means_iptr as iptr_meant, means_number as number_meant, means_pointer as pointer_meant, means_pptr as pptr_meant, means_ptr as ptr_meant, points_to as points_to_of, puts as puts_of, receives as receives_of, returns_kind as returns_kind_of, same_pointers as same_pointers_of, takes as takes_of, takes_each as takes_each_of};
+ghost use Rattle.cv_core.specs.Meant.{built_in_kinds as kinds_of_built_in, kinds_of as kinds_of_formals, meant_in as meant_in_of};
+
+use crate::program::{AnyOperand, Form, Formal, Operand, Proc, Rel, ResultKind, VarKind};
+use crate::shape::names::{BuiltIn, Meant, built_in, built_in_answer};
+use crate::shape::tables::{Scope, called, meant_in};
+use cv_list::{Bytes, List};
+
+fn means_int(m: Option<Meant>) -> bool
+    ensures { result ≡ int_meant m }
+{
+    matches!(m, Some(Meant::Variable(VarKind::Int)))
+}
+
+fn means_char(m: Option<Meant>) -> bool
+    ensures { result ≡ char_meant m }
+{
+    matches!(m, Some(Meant::Variable(VarKind::Char)))
+}
+
+fn means_number(m: Option<Meant>) -> bool
+    ensures { result ≡ number_meant m }
+{
+    matches!(m, Some(Meant::Variable(VarKind::Int | VarKind::Char)))
+}
+
+fn means_ptr(m: Option<Meant>) -> bool
+    ensures { result ≡ ptr_meant m }
+{
+    matches!(m, Some(Meant::Variable(VarKind::Ptr)))
+}
+
+pub(crate) fn means_pptr(m: Option<Meant>) -> bool
+    ensures { result ≡ pptr_meant m }
+{
+    matches!(m, Some(Meant::Variable(VarKind::Pptr)))
+}
+
+pub(crate) fn means_iptr(m: Option<Meant>) -> bool
+    ensures { result ≡ iptr_meant m }
+{
+    matches!(m, Some(Meant::Variable(VarKind::Iptr)))
+}
+
+fn means_pointer(m: Option<Meant>) -> bool
+    ensures { result ≡ pointer_meant m }
+{
+    matches!(
+        m,
+        Some(Meant::Variable(VarKind::Ptr | VarKind::Pptr | VarKind::Iptr))
+    )
+}
+
+/// Whether both are pointer variables of one kind.
+fn same_pointers(p: Option<Meant>, q: Option<Meant>) -> bool
+    ensures { result ≡ same_pointers_of p q }
+{
+    match p {
+        Some(Meant::Variable(VarKind::Ptr)) => means_ptr(q),
+        Some(Meant::Variable(VarKind::Pptr)) => means_pptr(q),
+        Some(Meant::Variable(VarKind::Iptr)) => means_iptr(q),
+        _ => false,
+    }
+}
+
+/// Whether the variable's kind points to the object.
+fn points_to(p: Option<Meant>, object: Option<Meant>) -> bool
+    ensures { result ≡ points_to_of p object }
+{
+    match p {
+        Some(Meant::Variable(VarKind::Ptr)) => matches!(object, Some(Meant::Buffer)),
+        Some(Meant::Variable(VarKind::Pptr)) => matches!(object, Some(Meant::PointerCell)),
+        Some(Meant::Variable(VarKind::Iptr)) => matches!(object, Some(Meant::IntCell)),
+        _ => false,
+    }
+}
+
+/// Whether a cell to which `w` points holds the variable's kind.
+fn held_by(x: Option<Meant>, w: Option<Meant>) -> bool
+    ensures { result ≡ held_by_of x w }
+{
+    match w {
+        Some(Meant::Variable(VarKind::Pptr)) => means_ptr(x),
+        Some(Meant::Variable(VarKind::Iptr)) => means_number(x),
+        _ => false,
+    }
+}
+
+fn is_number(s: &Scope, x: &Bytes) -> bool
+    ensures { result ≡ number_meant (meant_in_of s.entry.now.program.now s.entry.now.proc.now x.now) }
+{
+    means_number(meant_in(s, x))
+}
+
+fn is_ptr(s: &Scope, x: &Bytes) -> bool
+    ensures { result ≡ ptr_meant (meant_in_of s.entry.now.program.now s.entry.now.proc.now x.now) }
+{
+    means_ptr(meant_in(s, x))
+}
+
+/// An int or char variable, or a number.
+fn is_number_operand(s: &Scope, e: &Operand) -> bool
+    ensures { result ≡ number_operand s.entry.now.program.now s.entry.now.proc.now e.now }
+{
+    match e {
+        Operand::Var(x) => is_number(s, x),
+        Operand::Number(_) => true,
+    }
+}
+
+fn is_ptr_operand(s: &Scope, e: &Operand) -> bool
+    ensures { result ≡ ptr_operand s.entry.now.program.now s.entry.now.proc.now e.now }
+{
+    match e {
+        Operand::Var(x) => is_ptr(s, x),
+        Operand::Number(_) => false,
+    }
+}
+
+/// A char variable, or a number 0..255.
+fn is_char_operand(s: &Scope, e: &Operand) -> bool
+    ensures { result ≡ char_operand s.entry.now.program.now s.entry.now.proc.now e.now }
+{
+    match e {
+        Operand::Var(x) => means_char(meant_in(s, x)),
+        Operand::Number(z) => *z >= 0 && *z <= 255,
+    }
+}
+
+fn is_pptr_operand(s: &Scope, e: &Operand) -> bool
+    ensures { result ≡ pptr_operand s.entry.now.program.now s.entry.now.proc.now e.now }
+{
+    match e {
+        Operand::Var(x) => means_pptr(meant_in(s, x)),
+        Operand::Number(_) => false,
+    }
+}
+
+fn is_iptr_operand(s: &Scope, e: &Operand) -> bool
+    ensures { result ≡ iptr_operand s.entry.now.program.now s.entry.now.proc.now e.now }
+{
+    match e {
+        Operand::Var(x) => means_iptr(meant_in(s, x)),
+        Operand::Number(_) => false,
+    }
+}
+
+/// Whether a formal of the kind takes the argument.
+fn takes(s: &Scope, kind: VarKind, a: &AnyOperand) -> bool
+    ensures { result ≡ takes_of s.entry.now.program.now s.entry.now.proc.now kind a.now }
+{
+    match a {
+        AnyOperand::Operand(e) => match kind {
+            VarKind::Int => is_number_operand(s, e),
+            VarKind::Char => is_char_operand(s, e),
+            VarKind::Ptr => is_ptr_operand(s, e),
+            VarKind::Pptr => is_pptr_operand(s, e),
+            VarKind::Iptr => is_iptr_operand(s, e),
+        },
+        AnyOperand::Null => match kind {
+            VarKind::Int => false,
+            VarKind::Char => false,
+            VarKind::Ptr => true,
+            VarKind::Pptr => true,
+            VarKind::Iptr => true,
+        },
+    }
+}
+
+fn is_equality(r: Rel) -> bool
+    ensures { result ≡ equality r }
+{
+    matches!(r, Rel::Eq | Rel::Ne)
+}
+
+/// Whether `p = q`, or `p = null`, has its kinds.
+fn copies(s: &Scope, p: &Bytes, q: &Option<Bytes>) -> bool
+    ensures { result ≡ copies_of s.entry.now.program.now s.entry.now.proc.now p.now q.now }
+{
+    let to = meant_in(s, p);
+    match q {
+        None => means_pointer(to),
+        Some(q) => same_pointers(to, meant_in(s, q)),
+    }
+}
+
+/// Whether `put w, e` has its kinds.
+fn puts(s: &Scope, w: &Bytes, e: &AnyOperand) -> bool
+    ensures { result ≡ puts_of s.entry.now.program.now s.entry.now.proc.now w.now e.now }
+{
+    let to = meant_in(s, w);
+    match e {
+        AnyOperand::Null => means_pptr(to),
+        AnyOperand::Operand(Operand::Number(_)) => means_iptr(to),
+        AnyOperand::Operand(Operand::Var(x)) => held_by(meant_in(s, x), to),
+    }
+}
+
+/// Whether a comparison has its kinds.
+fn compares(s: &Scope, left: &Operand, r: Rel, right: &AnyOperand) -> bool
+    ensures { result ≡ compares_of s.entry.now.program.now s.entry.now.proc.now left.now r right.now }
+{
+    let equality = is_equality(r);
+    let pointer = is_ptr_operand(s, left);
+    match right {
+        AnyOperand::Null => pointer && equality,
+        AnyOperand::Operand(right) => {
+            let number = is_number_operand(s, left);
+            let numbers = number && is_number_operand(s, right);
+            let pointers = pointer && is_ptr_operand(s, right) && equality;
+            numbers || pointers
+        }
+    }
+}
+
+/// Whether the destination of a call takes the result.
+fn receives(s: &Scope, answer: ResultKind, into: &Option<Bytes>) -> bool
+    ensures { result ≡ receives_of s.entry.now.program.now s.entry.now.proc.now answer into.now }
+{
+    match into {
+        None => true,
+        Some(x) => match answer {
+            ResultKind::Void => false,
+            ResultKind::Int => means_int(meant_in(s, x)),
+            ResultKind::Char => means_number(meant_in(s, x)),
+            ResultKind::Ptr => means_ptr(meant_in(s, x)),
+        },
+    }
+}
+
+/// Whether the arguments that have a formal are of its kind.
+fn formals_take(s: &Scope, formals: &[Formal], args: &[AnyOperand]) -> bool
+    ensures { result ≡ takes_each_of s.entry.now.program.now s.entry.now.proc.now (map (λ x. x.kind) formals.now) args.now }
+{
+    match formals {
+        [] => true,
+        [formal, formals @ ..] => match args {
+            [] => true,
+            [arg, args @ ..] => {
+                let here = takes(s, formal.kind, arg);
+                let later = formals_take(s, formals, args);
+                here && later
+            }
+        },
+    }
+}
+
+/// Whether the first argument, if there is one, is a number.
+fn int_takes(s: &Scope, args: &[AnyOperand]) -> bool
+    ensures { result ≡ takes_each_of s.entry.now.program.now s.entry.now.proc.now (kinds_of_built_in BuiltIn.Malloc) args.now }
+{
+    match args {
+        [] => true,
+        [arg, ..] => takes(s, VarKind::Int, arg),
+    }
+}
+
+/// Whether the arguments of a built-in procedure are of its kinds.
+fn built_in_takes(s: &Scope, callee: BuiltIn, args: &[AnyOperand]) -> bool
+    ensures { result ≡ takes_each_of s.entry.now.program.now s.entry.now.proc.now (kinds_of_built_in callee) args.now }
+{
+    match callee {
+        BuiltIn::Malloc => int_takes(s, args),
+        BuiltIn::Getchar => true,
+        BuiltIn::Putchar => int_takes(s, args),
+    }
+}
+
+/// Whether a call has its kinds.
+fn calls(
+    s: &Scope,
+    into: &Option<Bytes>,
+    args: &[AnyOperand],
+    built: Option<BuiltIn>,
+    callee: Option<&Proc>,
+) -> bool
+    ensures { result ≡ calls_of s.entry.now.program.now s.entry.now.proc.now into.now args.now built (option_copied callee.entry) }
+{
+    match built {
+        Some(b) => {
+            let received = receives(s, built_in_answer(b), into);
+            let taken = built_in_takes(s, b, args);
+            received && taken
+        }
+        None => match callee {
+            None => false,
+            Some(h) => {
+                let received = receives(s, h.answer, into);
+                let taken = formals_take(s, h.formals.as_slice(), args);
+                received && taken
+            }
+        },
+    }
+}
+
+/// Whether the procedure may return the value.
+fn returns_kind(s: &Scope, answer: ResultKind, value: &Option<AnyOperand>) -> bool
+    ensures { result ≡ returns_kind_of s.entry.now.program.now s.entry.now.proc.now answer value.now }
+{
+    match value {
+        None => matches!(answer, ResultKind::Void),
+        Some(e) => match answer {
+            ResultKind::Void => false,
+            ResultKind::Int => takes(s, VarKind::Int, e),
+            ResultKind::Char => takes(s, VarKind::Char, e),
+            ResultKind::Ptr => takes(s, VarKind::Ptr, e),
+        },
+    }
+}
+
+fn number_from(s: &Scope, x: &Bytes, e: &Operand) -> bool
+    ensures { result ≡ (number_meant (meant_in_of s.entry.now.program.now s.entry.now.proc.now x.now) && number_operand s.entry.now.program.now s.entry.now.proc.now e.now) }
+{
+    let to = is_number(s, x);
+    let from = is_number_operand(s, e);
+    to && from
+}
+
+fn number_from_two(s: &Scope, x: &Bytes, e: &Operand, f: &Operand) -> bool
+    ensures { result ≡ (number_meant (meant_in_of s.entry.now.program.now s.entry.now.proc.now x.now) && number_operand s.entry.now.program.now s.entry.now.proc.now e.now && number_operand s.entry.now.program.now s.entry.now.proc.now f.now) }
+{
+    let first = number_from(s, x, e);
+    let second = is_number_operand(s, f);
+    first && second
+}
+
+fn shifts(s: &Scope, p: &Bytes, q: &Bytes, e: &Operand) -> bool
+    ensures { result ≡ (ptr_meant (meant_in_of s.entry.now.program.now s.entry.now.proc.now p.now) && ptr_meant (meant_in_of s.entry.now.program.now s.entry.now.proc.now q.now) && number_operand s.entry.now.program.now s.entry.now.proc.now e.now) }
+{
+    let to = is_ptr(s, p);
+    let from = is_ptr(s, q);
+    let by = is_number_operand(s, e);
+    to && from && by
+}
+
+fn loads(s: &Scope, x: &Bytes, p: &Bytes) -> bool
+    ensures { result ≡ (number_meant (meant_in_of s.entry.now.program.now s.entry.now.proc.now x.now) && ptr_meant (meant_in_of s.entry.now.program.now s.entry.now.proc.now p.now)) }
+{
+    let to = is_number(s, x);
+    let from = is_ptr(s, p);
+    to && from
+}
+
+fn stores(s: &Scope, p: &Bytes, e: &Operand) -> bool
+    ensures { result ≡ (ptr_meant (meant_in_of s.entry.now.program.now s.entry.now.proc.now p.now) && number_operand s.entry.now.program.now s.entry.now.proc.now e.now) }
+{
+    let to = is_ptr(s, p);
+    let from = is_number_operand(s, e);
+    to && from
+}
+
+fn differs(s: &Scope, x: &Bytes, p: &Bytes, q: &Bytes) -> bool
+    ensures { result ≡ (number_meant (meant_in_of s.entry.now.program.now s.entry.now.proc.now x.now) && ptr_meant (meant_in_of s.entry.now.program.now s.entry.now.proc.now p.now) && ptr_meant (meant_in_of s.entry.now.program.now s.entry.now.proc.now q.now)) }
+{
+    let first = loads(s, x, p);
+    let second = is_ptr(s, q);
+    first && second
+}
+
+/// Whether what a statement names has the kinds that the statement asks for.
+pub(crate) fn has_kinds(s: &Scope, form: &Form) -> bool
+    ensures { result ≡ has_kinds_of s.entry.now.program.now s.entry.now.proc.now form.now }
+{
+    match form {
+        Form::Assign { x, e } => number_from(s, x, e),
+        Form::Sum { x, e, f } => number_from_two(s, x, e, f),
+        Form::Minus { x, e, f } => number_from_two(s, x, e, f),
+        Form::Product { x, e, .. } => number_from(s, x, e),
+        Form::Quotient { x, e, .. } => number_from(s, x, e),
+        Form::Remainder { x, e, .. } => number_from(s, x, e),
+        Form::CopyPtr { p, q } => copies(s, p, q),
+        Form::Address { p, object } => points_to(meant_in(s, p), meant_in(s, object)),
+        Form::Shift { p, q, e } => shifts(s, p, q, e),
+        Form::Load { x, p } => loads(s, x, p),
+        Form::Store { p, e } => stores(s, p, e),
+        Form::Get { x, w } => held_by(meant_in(s, x), meant_in(s, w)),
+        Form::Put { w, value } => puts(s, w, value),
+        Form::Diff { x, p, q } => differs(s, x, p, q),
+        Form::Goto(_) => true,
+        Form::If {
+            left,
+            rel,
+            right,
+            ..
+        } => compares(s, left, *rel, right),
+        Form::IfByte { p, .. } => is_ptr(s, p),
+        Form::Call { into, f, args } => {
+            calls(s, into, args.as_slice(), built_in(f), called(s, f))
+        }
+        Form::Return(value) => returns_kind(s, s.proc.answer, value),
+    }
+}
+
+/// Whether there is an argument for each formal.
+fn counts(args: &[AnyOperand], built: Option<BuiltIn>, callee: Option<&Proc>) -> bool
+    ensures { result ≡ counts_of args.now built (option_copied callee.entry) }
+{
+    match built {
+        Some(BuiltIn::Malloc) => args.len() == 1,
+        Some(BuiltIn::Getchar) => args.is_empty(),
+        Some(BuiltIn::Putchar) => args.len() == 1,
+        None => match callee {
+            None => true,
+            Some(h) => args.len() == h.formals.len(),
+        },
+    }
+}
+
+/// Whether a call has an argument for each formal.
+pub(crate) fn has_count(s: &Scope, form: &Form) -> bool
+    ensures { result ≡ has_count_of s.entry.now.program.now form.now }
+{
+    match form {
+        Form::Call { f, args, .. } => counts(args.as_slice(), built_in(f), called(s, f)),
+        _ => true,
+    }
+}

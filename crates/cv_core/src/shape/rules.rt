@@ -1,0 +1,185 @@
+//! The rules that are tested at each place of a program, in their order.
+ghost use Rattle.std.specs.Prelude.{◌≡◌, ◌≤◌, length, slice_get};
+ghost use Rattle.std.specs.List.{list_any};
+ghost use Rattle.cv_core.specs.Headings.{is_main as main_name};
+ghost use Rattle.cv_core.specs.Names.{stmts_of as stmts_in};
+ghost use Rattle.cv_core.specs.Shape.{calls_main as calls_main_of, contract_tests as contract_tests_of, end_tests as end_tests_of, global_tests as global_tests_of, has_body as has_body_of, has_main as has_main_of, heading_tests as heading_tests_of, is_within as within, jumps_within as jumps_within_of, literal_tests as literal_tests_of, local_tests as local_tests_of, may_end as may_end_of, standing, statement_tests as statement_tests_of, test as test_of};
+
+use crate::faults::ShapeRule;
+use crate::program::{Form, Proc, Program, Stmt};
+use crate::shape::contracts::contract_formed;
+use crate::shape::doubles::{formal_twice, global_twice, literal_twice, local_twice, proc_twice};
+use crate::shape::headings::{breaks_extern, breaks_main, is_empty_body, is_main};
+use crate::shape::kinds::{has_count, has_kinds};
+use crate::shape::named::{mentions_unknown, mentions_unlisted, names_unknown, names_unlisted};
+use crate::shape::tables::{Names, Scope};
+
+/// Whether a rule stands at a place.
+#[derive(Clone, Copy, Debug, PartialEq, Eq)]
+pub(crate) struct RuleTest {
+    pub rule: ShapeRule,
+    pub stands: bool,
+}
+
+fn test(rule: ShapeRule, stands: bool) -> RuleTest
+    ensures { result ≡ test_of rule stands }
+{
+    RuleTest { rule, stands }
+}
+
+/// The first rule that stands.
+pub(crate) fn first_standing(tests: &[RuleTest]) -> Option<ShapeRule>
+    ensures { result ≡ slice_get (standing tests.now) 0 }
+{
+    match tests {
+        [] => None,
+        [first, rest @ ..] => {
+            if first.stands {
+                Some(first.rule)
+            } else {
+                first_standing(rest)
+            }
+        }
+    }
+}
+
+/// The statements of a procedure; none without a body.
+pub(crate) fn stmts_of(f: &Proc) -> &[Stmt]
+    ensures { result.now ≡ stmts_in f.now.body }
+{
+    match &f.body {
+        None => &[],
+        Some(body) => body.stmts.as_slice(),
+    }
+}
+
+fn is_within(f: &Proc, to: u32) -> bool
+    ensures { result ≡ within f.now to }
+{
+    (to as usize) < stmts_of(f).len()
+}
+
+/// Whether a jump goes to a statement of its procedure.
+fn jumps_within(f: &Proc, form: &Form) -> bool
+    ensures { result ≡ jumps_within_of f.now form.now }
+{
+    match form {
+        Form::Goto(to) => is_within(f, *to),
+        Form::If { to, .. } => is_within(f, *to),
+        Form::IfByte { to, .. } => is_within(f, *to),
+        _ => true,
+    }
+}
+
+/// Whether a body may end with the statement.
+fn may_end(form: &Form) -> bool
+    ensures { result ≡ may_end_of form.now }
+{
+    matches!(form, Form::Return(_) | Form::Goto(_))
+}
+
+fn calls_main(form: &Form) -> bool
+    ensures { result ≡ calls_main_of form.now }
+{
+    match form {
+        Form::Call { f, .. } => is_main(f),
+        _ => false,
+    }
+}
+
+pub(crate) fn global_tests(p: &Program) -> [RuleTest; 1]
+    ensures { result ≡ global_tests_of p.now }
+{
+    let twice = global_twice(p);
+    [test(ShapeRule::DoubleName, twice)]
+}
+
+pub(crate) fn literal_tests(n: &Names) -> [RuleTest; 1]
+    ensures { result ≡ literal_tests_of n.entry.now.program.now }
+{
+    let twice = literal_twice(n);
+    [test(ShapeRule::DoubleName, twice)]
+}
+
+/// The rules at the heading of the procedure of this number, its formals with it.
+pub(crate) fn heading_tests(n: &Names, number: usize, f: &Proc) -> [RuleTest; 4]
+    requires { number ≤ length n.now.program.now.procs }
+    ensures { result ≡ heading_tests_of n.entry.now.program.now number f.now }
+{
+    let proc = proc_twice(n.program, number, f);
+    let formal = formal_twice(n, f);
+    let empty = is_empty_body(f);
+    let main = breaks_main(f);
+    let outside = breaks_extern(f);
+    [
+        test(ShapeRule::DoubleName, proc || formal),
+        test(ShapeRule::NoReturn, empty),
+        test(ShapeRule::MainForm, main),
+        test(ShapeRule::ExternForm, outside),
+    ]
+}
+
+fn has_body(f: &Proc) -> bool
+    ensures { result ≡ has_body_of f.now.body }
+{
+    f.body.is_some()
+}
+
+/// The rules at the contract.
+pub(crate) fn contract_tests(s: &Scope) -> [RuleTest; 3]
+    ensures { result ≡ contract_tests_of s.entry.now.program.now s.entry.now.proc.now }
+{
+    let unknown = mentions_unknown(s);
+    let body = has_body(s.proc);
+    let unlisted = mentions_unlisted(s);
+    let formed = contract_formed(s, &s.proc.contract);
+    [
+        test(ShapeRule::UnknownName, unknown),
+        test(ShapeRule::UnlistedGlobal, body && unlisted),
+        test(ShapeRule::ContractForm, !formed),
+    ]
+}
+
+/// The rules at the locals.
+pub(crate) fn local_tests(n: &Names, f: &Proc) -> [RuleTest; 1]
+    ensures { result ≡ local_tests_of n.entry.now.program.now f.now }
+{
+    let twice = local_twice(n, f);
+    [test(ShapeRule::DoubleName, twice)]
+}
+
+/// The rules at a statement, the last one of its body or not.
+pub(crate) fn statement_tests(s: &Scope, last: bool, form: &Form) -> [RuleTest; 7]
+    ensures { result ≡ statement_tests_of s.entry.now.program.now s.entry.now.proc.now last form.now }
+{
+    let unknown = names_unknown(s, form);
+    let kinds = has_kinds(s, form);
+    let count = has_count(s, form);
+    let within = jumps_within(s.proc, form);
+    let ends = may_end(form);
+    let unlisted = names_unlisted(s, form);
+    let main = calls_main(form);
+    [
+        test(ShapeRule::UnknownName, unknown),
+        test(ShapeRule::KindMismatch, !kinds),
+        test(ShapeRule::ArgumentCount, !count),
+        test(ShapeRule::JumpOutOfRange, !within),
+        test(ShapeRule::NoReturn, last && !ends),
+        test(ShapeRule::UnlistedGlobal, unlisted),
+        test(ShapeRule::MainForm, main),
+    ]
+}
+
+fn has_main(p: &Program) -> bool
+    ensures { result ≡ has_main_of p.now }
+{
+    p.procs.as_slice().iter().any(|f| is_main(&f.name))
+}
+
+/// The rules at the end of the program.
+pub(crate) fn end_tests(p: &Program) -> [RuleTest; 1]
+    ensures { result ≡ end_tests_of p.now }
+{
+    let main = has_main(p);
+    [test(ShapeRule::NoMain, !main)]
+}

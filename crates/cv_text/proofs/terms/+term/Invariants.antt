@@ -1,0 +1,4 @@
+use Rattle.cv_text.proofs.terms.+term.Given as goal
+
+abbrev pub decreases-term : goal.decreases-term
+decreases-term l = l.levels
