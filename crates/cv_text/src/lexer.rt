@@ -70,7 +70,7 @@ fn lexed_part(text: &[u8]) -> &[u8]
     &text[..text.len().min(LEXED)]
 }
 
-/// The name or word of which the lexer found so many bytes.
+/// The name or word of which the lexer found so many bytes. More follow only where the lexer was given no more.
 fn word_in_front(text: &[u8], found: usize) -> (Token<'_>, usize)
     requires { found ≤ length text.now }
     ensures token { (seen result.0, result.1) ≡ word_lexed text.now found }
@@ -80,7 +80,7 @@ fn word_in_front(text: &[u8], found: usize) -> (Token<'_>, usize)
     (name_or_word(&text[..len]), len)
 }
 
-/// Digits of whatever value. What begins with `0x` is none of the grammar.
+/// Digits of whatever value, of which the lexer gives those up to 2147483648 alone. What begins with `0x` is none of the grammar.
 fn number_in_front(text: &[u8]) -> (Token<'_>, usize)
     requires { 0 < length text.now }
     ensures token { (seen result.0, result.1) ≡ number_lexed text.now }
