@@ -1,4 +1,5 @@
 pub mod Lexing
+pub mod Lexed
 pub mod Ink
 pub mod OneReading
 pub mod Values

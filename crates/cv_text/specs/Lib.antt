@@ -6,6 +6,7 @@ pub mod Levels
 pub mod Whole
 pub mod Narrow
 pub mod Seen
+pub mod Lexed
 pub mod Reader
 pub mod Given
 pub mod NarrowReader

@@ -111,6 +111,25 @@ fn finds_first_faults_1(rt: HostRuntime) -> Result<(), Fail> {
     Ok(())
 }
 
+/// What the lexer of C and CoreC has and the grammar hasn't, and signs that are two in CoreC.
+#[test]
+fn finds_first_faults_of_tokens(rt: HostRuntime) -> Result<(), Fail> {
+    let texts = [
+        "@#define X 1",
+        "1: proc int main() { @// c\n }",
+        "1: proc int main() { @/* c */ }",
+        "1: proc int main() { @/* c",
+        "1: proc int main() { 2: x = @'a'; }",
+        "1: proc int main() { 2: x = @\"a\"; }",
+        "1: proc int main() { 2: x = y@[1]; }",
+        "1: proc int main() { 2: x = y +@= 1; }",
+        "1: proc int main() { 2: p = &@&b; }",
+        "1: proc int main() { 2: x = y @|| z; }",
+    ];
+    assert!(rt; all_found(rt.alloc(), &texts)?);
+    Ok(())
+}
+
 #[test]
 fn finds_first_faults_2(rt: HostRuntime) -> Result<(), Fail> {
     let texts = [
