@@ -5,7 +5,7 @@ use Rattle.cv_check.specs.Accepted.{IsAccepted}
 use Rattle.cv_io.specs.Files.{Files, HoldsMore}
 use Rattle.cv_app.specs.declared.served.Served.{Served}
 use Rattle.cv_app.specs.declared.fault.Fault.{Fault}
-use Rattle.cv_app.specs.declared.fault.Fault.TheVariants.{Usage, NotBuilt, FileLimit, CertificateLimit, Read, Memory}
+use Rattle.cv_app.specs.declared.fault.Fault.TheVariants.{Usage, NotBuilt, Text, Nesting, Limit, Shape, FileLimit, CertificateLimit, Read, Memory}
 use Rattle.cv_app.specs.Commands.{Command, Check}
 use Rattle.cv_app.specs.Texts.{no_memory_text, not_built_text}
 use Rattle.cv_app.specs.Check.{Checks, Gives, IsBuilt, IsNotBuilt, StandsFor}
@@ -87,6 +87,10 @@ pub record Refusal (file cert : List ℕ) (fault : Fault) : Type 0 where
 
 pub refusal : (file cert : List ℕ) (fault : Fault) → IsCheckFault fault → Refusal file cert fault
 refusal file cert Usage known = absurd known
+refusal file cert (Text n) known = absurd known
+refusal file cert Nesting known = absurd known
+refusal file cert (Limit which) known = absurd known
+refusal file cert (Shape s) known = absurd known
 refusal file cert (NotBuilt n) known = record {
   high = omega arith;
   low = omega arith;
@@ -145,6 +149,10 @@ settled told file cert Read known decided = inl (inl refl)
 settled told file cert Memory known decided = inl (inr refl)
 settled None file cert fault known decided = inr (search rules)
 settled (Some files) file cert Usage known decided = absurd known
+settled (Some files) file cert (Text n) known decided = absurd known
+settled (Some files) file cert Nesting known decided = absurd known
+settled (Some files) file cert (Limit which) known decided = absurd known
+settled (Some files) file cert (Shape s) known decided = absurd known
 settled (Some files) file cert (NotBuilt n) known decided = inr decided
 settled (Some files) file cert FileLimit known decided = inr decided
 settled (Some files) file cert CertificateLimit known decided = inr decided
@@ -167,11 +175,15 @@ answered_refusal told file cert fault status out out' errs errs' e e' known deci
 
 pub becomes_refusal : (told : Option Files) (file cert : List ℕ) (fault : Fault) (status : ℕ) (out out' errs errs' : Option (List ℕ)) (e e' : ℕ) →
     IsCheckFault fault → IfSome told (λ files. Decides files file cert (Err fault)) →
-    IfSome told (λ files. UnlessHindered (Err fault) (HasOneProgram files file)) → out' ≡ out →
+    IfSome told (λ files. UnlessHindered {X = Bool} (Err fault) (HasOneProgram files file)) → out' ≡ out →
     Reported (refusal_of file fault) status errs errs' e e' →
     IfSome told (λ files. (answer : Served) → Answers (Some files) (Check file cert) answer → Becomes answer status out out')
 becomes_refusal None file cert fault status out out' errs errs' e e' known decided one same reported = search rules
 becomes_refusal (Some files) file cert Usage status out out' errs errs' e e' known decided one same reported = absurd known
+becomes_refusal (Some files) file cert (Text n) status out out' errs errs' e e' known decided one same reported = absurd known
+becomes_refusal (Some files) file cert Nesting status out out' errs errs' e e' known decided one same reported = absurd known
+becomes_refusal (Some files) file cert (Limit which) status out out' errs errs' e e' known decided one same reported = absurd known
+becomes_refusal (Some files) file cert (Shape s) status out out' errs errs' e e' known decided one same reported = absurd known
 becomes_refusal (Some files) file cert Read status out out' errs errs' e e' known decided one same reported = λ answer is.
     becomes_hindered (refusal_of file Read) answer status out out' errs errs' e e' (inl refl) same reported (no_usage files file cert answer is)
 becomes_refusal (Some files) file cert Memory status out out' errs errs' e e' known decided one same reported = λ answer is.

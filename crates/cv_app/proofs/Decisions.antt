@@ -6,7 +6,7 @@ use Rattle.cv_text.specs.Narrow.{IsNarrow}
 use Rattle.cv_check.specs.Accepted.{IsAccepted}
 use Rattle.cv_io.specs.Files.{Files, HoldsMore}
 use Rattle.cv_app.specs.declared.fault.Fault.{Fault}
-use Rattle.cv_app.specs.declared.fault.Fault.TheVariants.{Usage, NotBuilt, FileLimit, CertificateLimit, Read, Memory}
+use Rattle.cv_app.specs.declared.fault.Fault.TheVariants.{Usage, NotBuilt, Text, Nesting, Limit, Shape, FileLimit, CertificateLimit, Read, Memory}
 use Rattle.cv_app.specs.Check.{Checks, Gives, IsBuilt, IsNotBuilt, StandsFor}
 use Rattle.cv_app.specs.Check as check
 use Rattle.cv_app.specs.Faults.{Decides, LoadRefused, UnlessHindered, HasOneProgram}
@@ -31,6 +31,10 @@ pub refused_decides : (told told' : Option Files) (file cert bytes : List ℕ) (
     IfSome told (λ files. Decides files file cert (Err fault))
 refused_decides None told' file cert bytes p f f' fault same given built refused = search rules
 refused_decides (Some files) told' file cert bytes p f f' Usage same given built refused = absurd (grind arith)
+refused_decides (Some files) told' file cert bytes p f f' (Text n) same given built refused = absurd (grind arith)
+refused_decides (Some files) told' file cert bytes p f f' Nesting same given built refused = absurd (grind arith)
+refused_decides (Some files) told' file cert bytes p f f' (Limit which) same given built refused = absurd (grind arith)
+refused_decides (Some files) told' file cert bytes p f f' (Shape e) same given built refused = absurd (grind arith)
 refused_decides (Some files) told' file cert bytes p f f' (NotBuilt n) same given built refused = absurd (grind arith)
 refused_decides (Some files) told' file cert bytes p f f' FileLimit same given built refused = absurd (grind arith)
 refused_decides (Some files) told' file cert bytes p f f' Read same given built refused = tt
@@ -64,6 +68,10 @@ read_built (Some q) p name bytes shown built is same =
 pub unless : (decision : Result Bool Fault) → {P : Type 0} → P → UnlessHindered decision P
 unless (Ok accepted) here = here
 unless (Err Usage) here = here
+unless (Err (Text n)) here = here
+unless (Err Nesting) here = here
+unless (Err (Limit which)) here = here
+unless (Err (Shape e)) here = here
 unless (Err (NotBuilt n)) here = here
 unless (Err FileLimit) here = here
 unless (Err CertificateLimit) here = here
@@ -97,11 +105,15 @@ read_one_told (Some files) file bytes shown read given same exact decision = unl
 -- a file that is too long
 pub long_one : (told : Option Files) (file : List ℕ) (faults faults' : ℕ) (fault : Fault) →
     LoadRefused told file 1048576 FileLimit faults faults' fault →
-    IfSome told (λ files. UnlessHindered (Err fault) (HasOneProgram files file))
+    IfSome told (λ files. UnlessHindered {X = Bool} (Err fault) (HasOneProgram files file))
 long_one None file f f' fault refused = search rules
 long_one (Some files) file f f' Read refused = tt
 long_one (Some files) file f f' Memory refused = tt
 long_one (Some files) file f f' Usage refused = absurd (grind arith)
+long_one (Some files) file f f' (Text n) refused = absurd (grind arith)
+long_one (Some files) file f f' Nesting refused = absurd (grind arith)
+long_one (Some files) file f f' (Limit which) refused = absurd (grind arith)
+long_one (Some files) file f f' (Shape e) refused = absurd (grind arith)
 long_one (Some files) file f f' (NotBuilt n) refused = absurd (grind arith)
 long_one (Some files) file f f' CertificateLimit refused = absurd (grind arith)
 long_one (Some files) file f f' FileLimit refused = λ p q of_p of_q.

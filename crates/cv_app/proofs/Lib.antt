@@ -1,3 +1,4 @@
 pub mod CheckLemmas
 pub mod Decisions
 pub mod Outcomes
+pub mod FileLemmas

@@ -6,12 +6,15 @@ use Rattle.std.specs.Str.{bytes_eq}
 pub data Command : Type 0 where
   -- check FILE CERT
   Check : List ℕ → List ℕ → Command
+  -- core FILE
+  Core : List ℕ → Command
   -- words of no command
   Unknown : Command
 
 -- the command of these words
 abbrev pub command_of : List (List ℕ) → Command
 command_of (name ∷ file ∷ cert ∷ []) = if bytes_eq name (codes "check") then Check file cert else Unknown
+command_of (name ∷ file ∷ []) = if bytes_eq name (codes "core") then Core file else Unknown
 command_of words = Unknown
 
 -- the words as contracts see them

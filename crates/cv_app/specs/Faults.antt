@@ -5,14 +5,18 @@ use Rattle.cv_io.specs.Files.{Files, HoldsMore}
 use Rattle.cv_app.specs.Check.{Checks, StandsFor}
 use Rattle.cv_core.specs.declared.program.Program.{Program}
 use Rattle.cv_app.specs.declared.fault.Fault.{Fault}
-use Rattle.cv_app.specs.declared.fault.Fault.TheVariants.{Usage, NotBuilt, FileLimit, CertificateLimit, Read, Memory}
+use Rattle.cv_app.specs.declared.fault.Fault.TheVariants.{Usage, NotBuilt, Text, Nesting, Limit, Shape, FileLimit, CertificateLimit, Read, Memory}
 use Rattle.cv_app.specs.declared.served.Served.{Served}
 use Rattle.cv_app.specs.Served.{printed, refused}
-use Rattle.cv_app.specs.Texts.{accepted_text, rejected_text, usage_text, not_built_text, file_limit_text, certificate_limit_text, read_fault_text, no_memory_text}
+use Rattle.cv_app.specs.Texts.{accepted_text, rejected_text, usage_text, not_built_text, text_fault_text, shape_fault_text, limit_text, nesting_limit_text, file_limit_text, certificate_limit_text, read_fault_text, no_memory_text}
 
 abbrev pub refusal_of : List ℕ → Fault → Served
 refusal_of file Usage = refused 2 usage_text
 refusal_of file (NotBuilt number) = refused 3 (not_built_text file number)
+refusal_of file (Text number) = refused 3 (text_fault_text file number)
+refusal_of file Nesting = refused 4 nesting_limit_text
+refusal_of file (Limit which) = refused 4 (limit_text which)
+refusal_of file (Shape e) = refused 3 (shape_fault_text file e)
 refusal_of file FileLimit = refused 4 file_limit_text
 refusal_of file CertificateLimit = refused 4 certificate_limit_text
 refusal_of file Read = refused 5 read_fault_text
@@ -39,10 +43,14 @@ Decides files file cert decision = Checks files file cert (answer_of file decisi
 abbrev pub IsCheckFault : Fault → Type 0
 IsCheckFault Usage = ⊥
 IsCheckFault (NotBuilt number) = number ≡ 1
+IsCheckFault (Text number) = ⊥
+IsCheckFault Nesting = ⊥
+IsCheckFault (Limit which) = ⊥
+IsCheckFault (Shape e) = ⊥
 IsCheckFault fault = Unit {0}
 
 -- a fact, but for faults of reading and want of memory
-abbrev pub UnlessHindered : Result Bool Fault → Type 0 → Type 0
+abbrev pub UnlessHindered : {X : Type 0} → Result X Fault → Type 0 → Type 0
 UnlessHindered (Err Read) P = Unit {0}
 UnlessHindered (Err Memory) P = Unit {0}
 UnlessHindered decision P = P

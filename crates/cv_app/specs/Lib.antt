@@ -2,7 +2,10 @@ pub mod Commands
 pub mod Texts
 pub mod Served
 pub mod Check
+pub mod Programs
+pub mod Core
 pub mod Answers
 pub mod Sinks
 pub mod Faults
+pub mod Decided
 pub mod Requests

@@ -9,6 +9,7 @@ ghost use Rattle.cv_app.specs.Sinks.{IsSettled, Answered, Becomes, PrintsBy, Ref
 
 use crate::check::check;
 use crate::fault::{Fault, report};
+use crate::print_command::print_command;
 use crate::request::{Request, request_of};
 use crate::served::Served;
 use cv_io::{Sink, Source, SteadySink, SteadySource, Store};
@@ -56,6 +57,7 @@ pub fn cssv<S: Store, I: Source, O: Sink, E: Sink>(
     let _ = input;
     match request_of(words) {
         Request::Check { file, cert } => check(alloc, file, cert, store, out, errs),
+        Request::Core { file } => print_command(alloc, file, store, out, errs),
         Request::Unknown => report(alloc, errs, &[], Fault::Usage),
     }
 }

@@ -21,12 +21,12 @@ use cv_io::{Sink, Store, StoreError};
 use cv_text::read_narrow;
 use std::alloc::{AllocError, Global};
 
-const FILE_LIMIT: u64 = 1048576;
+pub(crate) const FILE_LIMIT: u64 = 1048576;
 
 const CERTIFICATE_LIMIT: u64 = 268435456;
 
 /// Loads the bytes of a name, at most `limit` of them.
-fn load<S: Store>(
+pub(crate) fn load<S: Store>(
     alloc: Global,
     store: &mut S,
     name: &[u8],

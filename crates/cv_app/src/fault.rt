@@ -5,8 +5,9 @@ ghost use Rattle.cv_app.specs.declared.fault.Fault.TheVariants.{Memory as memory
 ghost use Rattle.cv_app.specs.Faults.{refusal_of};
 ghost use Rattle.cv_app.specs.Served.{refused};
 ghost use Rattle.cv_app.specs.Sinks.{Writes, Reported};
-ghost use Rattle.cv_app.specs.Texts.{not_built_text};
+ghost use Rattle.cv_app.specs.Texts.{fault_text, limit_text, rule_name as rule_name_of};
 
+use cv_core::{LimitName, ShapeFault, ShapeRule};
 use cv_io::{Sink, SinkError};
 use std::alloc::{AllocError, Global};
 use thiserror::Error;
@@ -25,6 +26,18 @@ pub enum Fault {
     /// The file is no program that is treated yet, as is seen at this line, from 1.
     #[error("not built at line {line}")]
     NotBuilt { line: u32 },
+    /// The first fault of the text of the file is on this line, from 1.
+    #[error("fault text at line {line}")]
+    Text { line: u32 },
+    /// A contract of the file opens more than 100 levels.
+    #[error("limit nesting")]
+    Nesting,
+    /// The program of the file passes a limit.
+    #[error("limit")]
+    Limit(LimitName),
+    /// A fault of shape stands in the program of the file.
+    #[error("fault of shape")]
+    Shape(ShapeFault),
     /// The file has more than 1048576 bytes.
     #[error("limit file")]
     FileLimit,
@@ -47,14 +60,65 @@ impl From<AllocError> for Fault {
     }
 }
 
-/// The line of a file that is no program that is treated yet.
-fn not_built_line(alloc: Global, file: &[u8], number: u32) -> Result<Vec<u8>, AllocError>
-    ensures { IfOk result (λ text. text.items ≡ not_built_text file.now number) }
+/// The line of a file that has a fault of this name on a line.
+fn fault_line(
+    alloc: Global,
+    file: &[u8],
+    number: u32,
+    name: &[u8],
+) -> Result<Vec<u8>, AllocError>
+    ensures { IfOk result (λ text. text.items ≡ fault_text file.now number name.now) }
 {
     let mut text = Vec::from_slice(alloc, file)?;
-    let rest = format!(in alloc; ":{number}: fault NotBuilt\n")?;
-    text.extend_from_slice(rest.as_bytes())?;
+    let place = format!(in alloc; ":{number}: fault ")?;
+    text.extend_from_slice(place.as_bytes())?;
+    text.extend_from_slice(name)?;
+    text.push(b'\n')?;
     Ok(text)
+}
+
+fn rule_name(rule: ShapeRule) -> &'static [u8]
+    ensures { result.now ≡ rule_name_of rule }
+{
+    match rule {
+        ShapeRule::DoubleName => b"DoubleName",
+        ShapeRule::UnknownName => b"UnknownName",
+        ShapeRule::KindMismatch => b"KindMismatch",
+        ShapeRule::ArgumentCount => b"ArgumentCount",
+        ShapeRule::JumpOutOfRange => b"JumpOutOfRange",
+        ShapeRule::NoReturn => b"NoReturn",
+        ShapeRule::UnlistedGlobal => b"UnlistedGlobal",
+        ShapeRule::MainForm => b"MainForm",
+        ShapeRule::ExternForm => b"ExternForm",
+        ShapeRule::ContractForm => b"ContractForm",
+        ShapeRule::NoMain => b"NoMain",
+    }
+}
+
+/// The line of a limit that a program passes: its name and its value.
+fn limit_line(which: LimitName) -> &'static [u8]
+    ensures { result.now ≡ limit_text which }
+{
+    match which {
+        LimitName::Procedures => b"limit procedures 256\n",
+        LimitName::Globals => b"limit globals 256\n",
+        LimitName::Literals => b"limit literals 1024\n",
+        LimitName::Literal => b"limit literal 4096\n",
+        LimitName::Formals => b"limit formals 8\n",
+        LimitName::Locals => b"limit locals 200\n",
+        LimitName::Statements => b"limit statements 1000\n",
+        LimitName::Atoms => b"limit atoms 16\n",
+        LimitName::Parts => b"limit parts 12\n",
+        LimitName::Alternatives => b"limit alternatives 8\n",
+        LimitName::File => b"limit file 1048576\n",
+        LimitName::Certificate => b"limit certificate 268435456\n",
+        LimitName::Input => b"limit input 1048576\n",
+        LimitName::Nesting => b"limit nesting 100\n",
+        LimitName::Cases => b"limit cases 64\n",
+        LimitName::Variables => b"limit variables 200\n",
+        LimitName::Transitions => b"limit transitions 256\n",
+        LimitName::Templates => b"limit templates 2500\n",
+    }
 }
 
 /// Writes a line to standard error. The status is the line's, also where the write fails, but 7 for want of memory.
@@ -69,6 +133,17 @@ pub(crate) fn refuse<E: Sink>(errs: &mut E, status: u8, text: &[u8]) -> u8
     }
 }
 
+/// Says on standard error that a file has a fault of this name on a line.
+fn report_fault<E: Sink>(alloc: Global, errs: &mut E, file: &[u8], number: u32, name: &[u8]) -> u8
+    ensures { Reported (refused 3 (fault_text file.now number name.now)) result (E.content errs.old) (E.content errs.new)
+        (E.faults errs.old) (E.faults errs.new) }
+{
+    match fault_line(alloc, file, number, name) {
+        Ok(text) => refuse(errs, 3, &text),
+        Err(_) => refuse(errs, 7, NO_MEMORY),
+    }
+}
+
 /// Says on standard error why a command answers nothing.
 pub(crate) fn report<E: Sink>(alloc: Global, errs: &mut E, file: &[u8], fault: Fault) -> u8
     ensures { Reported (refusal_of file.now fault) result (E.content errs.old) (E.content errs.new) (E.faults errs.old)
@@ -76,12 +151,13 @@ pub(crate) fn report<E: Sink>(alloc: Global, errs: &mut E, file: &[u8], fault: F
 {
     match fault {
         Fault::Usage => refuse(errs, 2, USAGE),
-        Fault::NotBuilt { line } => match not_built_line(alloc, file, line) {
-            Ok(text) => refuse(errs, 3, &text),
-            Err(_) => refuse(errs, 7, NO_MEMORY),
-        },
-        Fault::FileLimit => refuse(errs, 4, b"limit file 1048576\n"),
-        Fault::CertificateLimit => refuse(errs, 4, b"limit certificate 268435456\n"),
+        Fault::NotBuilt { line } => report_fault(alloc, errs, file, line, b"NotBuilt"),
+        Fault::Text { line } => report_fault(alloc, errs, file, line, b"text"),
+        Fault::Shape(found) => report_fault(alloc, errs, file, found.line, rule_name(found.rule)),
+        Fault::Nesting => refuse(errs, 4, limit_line(LimitName::Nesting)),
+        Fault::Limit(which) => refuse(errs, 4, limit_line(which)),
+        Fault::FileLimit => refuse(errs, 4, limit_line(LimitName::File)),
+        Fault::CertificateLimit => refuse(errs, 4, limit_line(LimitName::Certificate)),
         Fault::Read => refuse(errs, 5, b"read fault\n"),
         Fault::Memory => refuse(errs, 7, NO_MEMORY),
     }

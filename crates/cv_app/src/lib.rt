@@ -5,8 +5,12 @@ mod answer;
 mod app;
 mod check;
 mod fault;
+mod print_command;
+mod program;
 mod request;
 mod served;
+#[cfg(test)]
+mod core_tests;
 #[cfg(test)]
 mod tests;
 

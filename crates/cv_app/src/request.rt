@@ -6,6 +6,7 @@ ghost use Rattle.cv_app.specs.Requests.{shown};
 /// A command with its words.
 pub(crate) enum Request<'a> {
     Check { file: &'a [u8], cert: &'a [u8] },
+    Core { file: &'a [u8] },
     Unknown,
 }
 
@@ -18,6 +19,7 @@ pub(crate) fn request_of(words: &[Vec<u8>]) -> Request<'_>
             file,
             cert,
         },
+        [name, file] if name.as_slice() == b"core".as_slice() => Request::Core { file },
         _ => Request::Unknown,
     }
 }

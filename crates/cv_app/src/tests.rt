@@ -170,7 +170,7 @@ fn a_hundred_statements_are_built(rt: HostRuntime) -> Result<(), Fail> {
 #[test]
 fn words_and_names_are_refused(rt: HostRuntime) -> Result<(), Fail> {
     let alloc = rt.alloc();
-    let table: [(&[&str], u8, &str); 10] = [
+    let table: [(&[&str], u8, &str); 14] = [
         (&[], 2, USAGE),
         (&["check"], 2, USAGE),
         (&["check", "b.core"], 2, USAGE),
@@ -181,6 +181,10 @@ fn words_and_names_are_refused(rt: HostRuntime) -> Result<(), Fail> {
         (&["check", "a.c", "b.cert"], 5, "read fault\n"),
         (&["check", "b.core", "a.cert"], 5, "read fault\n"),
         (&["check", "b.c", "b.cert"], 3, "b.c:1: fault NotBuilt\n"),
+        (&["core"], 2, USAGE),
+        (&["core", "b.core", "b.core"], 2, USAGE),
+        (&["core", "a.core"], 5, "read fault\n"),
+        (&["core", "b.c"], 3, "b.c:1: fault NotBuilt\n"),
     ];
     for (words, status, errs) in &table {
         let words = words_of(alloc, words)?;

@@ -14,6 +14,12 @@ returns-in-Check-clause-exactly g c =
     Becomes answer c.check.result (g.O.Sink.content c.args.out.now) (g.O.Sink.content c.check.new.out)))
     c.in-Check.ensures c.check.ensures.exactly
 
+pub returns-in-Core-clause-exactly : goal.returns-in-Core-clause-exactly
+returns-in-Core-clause-exactly g c =
+    subst (λ (command : Command). IfSome (g.S.Store.content c.args.store.now) (λ files. (answer : Served) → Answers (Some files) command answer →
+    Becomes answer c.print_command.result (g.O.Sink.content c.args.out.now) (g.O.Sink.content c.print_command.new.out)))
+    c.in-Core.ensures c.print_command.ensures.exactly
+
 pub returns-in-Unknown-clause-answered : goal.returns-in-Unknown-clause-answered
 returns-in-Unknown-clause-answered g c = λ calm.
     subst (λ (command : Command). Answered (g.S.Store.content c.args.store.now) command c.report.result (g.O.Sink.content c.args.out.now) (g.O.Sink.content c.args.out.now)
