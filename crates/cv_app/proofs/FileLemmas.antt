@@ -1,5 +1,5 @@
 -- What is found of a file, and the answers of `core`.
-use Rattle.std.proofs.Common.{◌≡◌, ◌≢◌, ℕ, ◌+◌, ◌<◌, ◌≤◌, ◌⊎◌, List, [], length, true, Vec, Option, None, Some, Result, Ok, Err, IfSome, refl, sym, ◌∙◌, ap, rules, arith, subst, inl, inr}
+use Rattle.std.proofs.Common.{Bool, false, nat_eq, ◌≡◌, ◌≢◌, ℕ, ◌+◌, ◌<◌, ◌≤◌, ◌⊎◌, List, [], ◌∷◌, length, true, Vec, Option, None, Some, Result, Ok, Err, IfSome, refl, sym, ◌∙◌, ap, rules, arith, subst, inl, inr}
 use Rattle.cv_core.specs.declared.faults.LimitName.{LimitName}
 use Rattle.cv_core.specs.declared.faults.ShapeFault.{ShapeFault}
 use Rattle.cv_core.specs.declared.program.Program.{Program}
@@ -23,16 +23,17 @@ use Rattle.std.specs.declared.alloc.Global.{Global}
 use Rattle.cv_app.specs.declared.served.Served.{Served}
 use Rattle.cv_app.specs.declared.fault.Fault.{Fault}
 use Rattle.cv_app.specs.declared.fault.Fault.TheVariants.{Usage, NotBuilt, Text, Nesting, Limit, Shape, FileLimit, CertificateLimit, Read, Memory}
-use Rattle.cv_app.specs.Commands.{Core}
+use Rattle.cv_app.specs.Commands.{Command, Check, Core, Unknown}
 use Rattle.cv_app.specs.Texts.{no_memory_text, not_built_text, file_limit_text}
-use Rattle.cv_app.specs.Check.{Gives, IsCName}
+use Rattle.cv_app.specs.Check.{Gives, IsCName, Checks, FileTooLong, NotBuilt as UnbuiltFile, CertificateTooLong, Rejected, Accepted}
 use Rattle.cv_app.specs.Programs.{Found, by_shape, by_limit, found_by, BytesGive, CText, CoreText, FileGives, TooLong, Bytes}
 use Rattle.cv_app.specs.Core.{Cores, core_answer}
 use Rattle.cv_app.specs.Answers.{Answers, Refuses}
 use Rattle.cv_app.specs.Faults.{refusal_of, LoadRefused, UnlessHindered}
 use Rattle.cv_app.specs.Decided.{outcome_of, reading_of, IsFileFault, IsTextFault, IsGiven, IsFound, core_outcome, IsCoreAnswer, IsRead}
 use Rattle.cv_app.specs.Served.{printed, refused}
-use Rattle.cv_app.specs.Sinks.{Reported, Printed, IsSettled, Answered, Becomes}
+use Rattle.cv_app.specs.Sinks.{Reported, Printed, IsSettled, Answered, Becomes, Writes}
+use Rattle.cv_io.specs.Streams.{Appends}
 use Rattle.cv_app.specs.Sinks as sinks
 use Rattle.cv_app.proofs.Decisions.{too_long_given}
 use Rattle.cv_app.proofs.Outcomes.{answered_printed, answered_reported, becomes_printed, becomes_reported, becomes_hindered}
@@ -78,31 +79,31 @@ given_core name bytes found r n read is = record { given = CoreText n r read.is 
 -- a text that was refused
 pub given_refused : (name bytes : List ℕ) (e : Fault) → (IsCName name → ⊥) → IsTextFault e → UnlessHindered {X = Program} (Err e) (IsRead bytes (reading_of (Err e))) →
     UnlessHindered {X = Program} (Err e) (IsGiven name bytes (Err (refusal_of name e)))
-given_refused name bytes (Text n) no known h = given_core name bytes (Err (refusal_of name (Text n))) (Err (Faulty n)) no h refl
-given_refused name bytes Nesting no known h = given_core name bytes (Err (refusal_of name Nesting)) (Err Nested) no h refl
-given_refused name bytes Memory no known h = tt
-given_refused name bytes Read no known h = tt
-given_refused name bytes Usage no known h = absurd known
-given_refused name bytes (NotBuilt n) no known h = absurd known
-given_refused name bytes (Limit which) no known h = absurd known
-given_refused name bytes (Shape e) no known h = absurd known
-given_refused name bytes FileLimit no known h = absurd known
-given_refused name bytes CertificateLimit no known h = absurd known
+given_refused name bytes (Text n) plain known h = given_core name bytes (Err (refusal_of name (Text n))) (Err (Faulty n)) plain h refl
+given_refused name bytes Nesting plain known h = given_core name bytes (Err (refusal_of name Nesting)) (Err Nested) plain h refl
+given_refused name bytes Memory plain known h = tt
+given_refused name bytes Read plain known h = tt
+given_refused name bytes Usage plain known h = absurd known
+given_refused name bytes (NotBuilt n) plain known h = absurd known
+given_refused name bytes (Limit which) plain known h = absurd known
+given_refused name bytes (Shape e) plain known h = absurd known
+given_refused name bytes FileLimit plain known h = absurd known
+given_refused name bytes CertificateLimit plain known h = absurd known
 
 -- a program that was tested
 pub given_formed : (name bytes : List ℕ) (p : Program) (result : Result Program Fault) → (IsCName name → ⊥) → IsRead bytes (Ok p) →
     UnlessHindered result (outcome_of name result ≡ by_limit name p (first_limit p)) → UnlessHindered result (IsGiven name bytes (outcome_of name result))
-given_formed name bytes p (Ok q) no read h = given_core name bytes (Ok q) (Ok p) no read h
-given_formed name bytes p (Err Read) no read h = tt
-given_formed name bytes p (Err Memory) no read h = tt
-given_formed name bytes p (Err Usage) no read h = given_core name bytes (Err (refusal_of name Usage)) (Ok p) no read h
-given_formed name bytes p (Err (NotBuilt n)) no read h = given_core name bytes (Err (refusal_of name (NotBuilt n))) (Ok p) no read h
-given_formed name bytes p (Err (Text n)) no read h = given_core name bytes (Err (refusal_of name (Text n))) (Ok p) no read h
-given_formed name bytes p (Err Nesting) no read h = given_core name bytes (Err (refusal_of name Nesting)) (Ok p) no read h
-given_formed name bytes p (Err (Limit which)) no read h = given_core name bytes (Err (refusal_of name (Limit which))) (Ok p) no read h
-given_formed name bytes p (Err (Shape e)) no read h = given_core name bytes (Err (refusal_of name (Shape e))) (Ok p) no read h
-given_formed name bytes p (Err FileLimit) no read h = given_core name bytes (Err (refusal_of name FileLimit)) (Ok p) no read h
-given_formed name bytes p (Err CertificateLimit) no read h = given_core name bytes (Err (refusal_of name CertificateLimit)) (Ok p) no read h
+given_formed name bytes p (Ok q) plain read h = given_core name bytes (Ok q) (Ok p) plain read h
+given_formed name bytes p (Err Read) plain read h = tt
+given_formed name bytes p (Err Memory) plain read h = tt
+given_formed name bytes p (Err Usage) plain read h = given_core name bytes (Err (refusal_of name Usage)) (Ok p) plain read h
+given_formed name bytes p (Err (NotBuilt n)) plain read h = given_core name bytes (Err (refusal_of name (NotBuilt n))) (Ok p) plain read h
+given_formed name bytes p (Err (Text n)) plain read h = given_core name bytes (Err (refusal_of name (Text n))) (Ok p) plain read h
+given_formed name bytes p (Err Nesting) plain read h = given_core name bytes (Err (refusal_of name Nesting)) (Ok p) plain read h
+given_formed name bytes p (Err (Limit which)) plain read h = given_core name bytes (Err (refusal_of name (Limit which))) (Ok p) plain read h
+given_formed name bytes p (Err (Shape e)) plain read h = given_core name bytes (Err (refusal_of name (Shape e))) (Ok p) plain read h
+given_formed name bytes p (Err FileLimit) plain read h = given_core name bytes (Err (refusal_of name FileLimit)) (Ok p) plain read h
+given_formed name bytes p (Err CertificateLimit) plain read h = given_core name bytes (Err (refusal_of name CertificateLimit)) (Ok p) plain read h
 
 -- ---- the file
 
@@ -201,7 +202,7 @@ low_found : (files : Files) (file : List ℕ) (found : Found) → FileGives file
 low_found files file found (TooLong more e) h = let s : (core_answer (Err (refused 4 file_limit_text))).status ≡ 2 = sym (ap (λ (f : Found). (core_answer f).status) e) ∙ h in omega (arith, s)
 low_found files file found (Bytes bytes g k) h = low_given file bytes found k h
 
--- `core` has no usage line
+-- `core` has plain usage line
 pub core_no_usage : (files : Files) (file : List ℕ) (answer : Served) → Cores files file answer → answer.status ≢ 2
 core_no_usage files file answer c h = low_found files file c.found c.gives (sym (ap (λ (a : Served). a.status) c.is) ∙ h)
 
@@ -225,36 +226,92 @@ pub core_refusal : (file : List ℕ) (fault : Fault) → IsFileFault fault → C
 core_refusal file Usage known = absurd known
 core_refusal file CertificateLimit known = absurd known
 core_refusal file (NotBuilt n) known = record {
-  high = omega arith; low = omega arith; no_two = λ h. absurd (omega arith); no_six = λ h. absurd (omega arith); no_zero = λ h. absurd (omega arith);
-  quiet = refl; line = inl (inl (refl, inl (ap (λ (n : ℕ). not_built_text file n) known))); memory = core_memory file; five = λ h. absurd (omega arith);
+  high = omega arith;
+  low = omega arith;
+  no_two = λ h. absurd (omega arith);
+  no_six = λ h. absurd (omega arith);
+  no_zero = λ h. absurd (omega arith);
+  quiet = refl;
+  line = inl (inl (refl, inl (ap (λ (n : ℕ). not_built_text file n) known)));
+  memory = core_memory file;
+  five = λ h. absurd (omega arith);
 }
 core_refusal file (Text n) known = record {
-  high = omega arith; low = omega arith; no_two = λ h. absurd (omega arith); no_six = λ h. absurd (omega arith); no_zero = λ h. absurd (omega arith);
-  quiet = refl; line = inl (inl (refl, inr (inl (n, refl)))); memory = core_memory file; five = λ h. absurd (omega arith);
+  high = omega arith;
+  low = omega arith;
+  no_two = λ h. absurd (omega arith);
+  no_six = λ h. absurd (omega arith);
+  no_zero = λ h. absurd (omega arith);
+  quiet = refl;
+  line = inl (inl (refl, inr (inl (n, refl))));
+  memory = core_memory file;
+  five = λ h. absurd (omega arith);
 }
 core_refusal file (Shape e) known = record {
-  high = omega arith; low = omega arith; no_two = λ h. absurd (omega arith); no_six = λ h. absurd (omega arith); no_zero = λ h. absurd (omega arith);
-  quiet = refl; line = inl (inl (refl, inr (inr (e, refl)))); memory = core_memory file; five = λ h. absurd (omega arith);
+  high = omega arith;
+  low = omega arith;
+  no_two = λ h. absurd (omega arith);
+  no_six = λ h. absurd (omega arith);
+  no_zero = λ h. absurd (omega arith);
+  quiet = refl;
+  line = inl (inl (refl, inr (inr (e, refl))));
+  memory = core_memory file;
+  five = λ h. absurd (omega arith);
 }
 core_refusal file FileLimit known = record {
-  high = omega arith; low = omega arith; no_two = λ h. absurd (omega arith); no_six = λ h. absurd (omega arith); no_zero = λ h. absurd (omega arith);
-  quiet = refl; line = inl (inr (refl, inl refl)); memory = core_memory file; five = λ h. absurd (omega arith);
+  high = omega arith;
+  low = omega arith;
+  no_two = λ h. absurd (omega arith);
+  no_six = λ h. absurd (omega arith);
+  no_zero = λ h. absurd (omega arith);
+  quiet = refl;
+  line = inl (inr (refl, inl refl));
+  memory = core_memory file;
+  five = λ h. absurd (omega arith);
 }
 core_refusal file Nesting known = record {
-  high = omega arith; low = omega arith; no_two = λ h. absurd (omega arith); no_six = λ h. absurd (omega arith); no_zero = λ h. absurd (omega arith);
-  quiet = refl; line = inl (inr (refl, inr (inl refl))); memory = core_memory file; five = λ h. absurd (omega arith);
+  high = omega arith;
+  low = omega arith;
+  no_two = λ h. absurd (omega arith);
+  no_six = λ h. absurd (omega arith);
+  no_zero = λ h. absurd (omega arith);
+  quiet = refl;
+  line = inl (inr (refl, inr (inl refl)));
+  memory = core_memory file;
+  five = λ h. absurd (omega arith);
 }
 core_refusal file (Limit which) known = record {
-  high = omega arith; low = omega arith; no_two = λ h. absurd (omega arith); no_six = λ h. absurd (omega arith); no_zero = λ h. absurd (omega arith);
-  quiet = refl; line = inl (inr (refl, inr (inr (which, refl)))); memory = core_memory file; five = λ h. absurd (omega arith);
+  high = omega arith;
+  low = omega arith;
+  no_two = λ h. absurd (omega arith);
+  no_six = λ h. absurd (omega arith);
+  no_zero = λ h. absurd (omega arith);
+  quiet = refl;
+  line = inl (inr (refl, inr (inr (which, refl))));
+  memory = core_memory file;
+  five = λ h. absurd (omega arith);
 }
 core_refusal file Read known = record {
-  high = omega arith; low = omega arith; no_two = λ h. absurd (omega arith); no_six = λ h. absurd (omega arith); no_zero = λ h. absurd (omega arith);
-  quiet = refl; line = inr (inl (refl, refl)); memory = core_memory file; five = λ h. refl;
+  high = omega arith;
+  low = omega arith;
+  no_two = λ h. absurd (omega arith);
+  no_six = λ h. absurd (omega arith);
+  no_zero = λ h. absurd (omega arith);
+  quiet = refl;
+  line = inr (inl (refl, refl));
+  memory = core_memory file;
+  five = λ h. refl;
 }
 core_refusal file Memory known = record {
-  high = omega arith; low = omega arith; no_two = λ h. absurd (omega arith); no_six = λ h. absurd (omega arith); no_zero = λ h. absurd (omega arith);
-  quiet = refl; line = core_memory file; memory = core_memory file; five = λ h. absurd (omega arith);
+  high = omega arith;
+  low = omega arith;
+  no_two = λ h. absurd (omega arith);
+  no_six = λ h. absurd (omega arith);
+  no_zero = λ h. absurd (omega arith);
+  quiet = refl;
+  line = core_memory file;
+  memory = core_memory file;
+  five = λ h. absurd (omega arith);
 }
 
 -- what was found, as an answer of `core`
@@ -340,9 +397,78 @@ one_found : (files : Files) (name : List ℕ) (found : Found) → FileGives file
 one_found files name found (TooLong more e) = subst (IsFound files name) (sym e) (found_long files name more)
 one_found files name found (Bytes bytes there h) = found_bytes files name bytes found there (one_given name bytes found h)
 
--- ---- `core` has one answer
+-- ---- a command has one answer
 
-pub one_core : (files : Files) (file : List ℕ) (answer other : Served) → Cores files file answer → Cores files file other → other ≡ answer
+one_core : (files : Files) (file : List ℕ) (answer other : Served) → Cores files file answer → Cores files file other → other ≡ answer
 one_core files file answer other c d =
     let only = (core_found files file c.found (one_found files file c.found c.gives)).only in
     only other d ∙ sym c.is
+
+other_status : (answer other : Served) (m n : ℕ) → answer.status ≡ m → other.status ≡ n → answer.status ≡ other.status → (m ≡ n → ⊥) → ⊥
+other_status answer other m n e f same differ = differ (sym e ∙ same ∙ f)
+
+-- its answers of one status are the same
+one_check : (files : Files) (file cert : List ℕ) (answer other : Served) → Checks files file cert answer → Checks files file cert other → answer.status ≡ other.status → other ≡ answer
+one_check files file cert answer other (FileTooLong m1 e1) (FileTooLong m2 e2) same = e2 ∙ sym e1
+one_check files file cert answer other (FileTooLong m1 e1) (UnbuiltFile b2 g2 n2 e2) same = absurd (other_status answer other 4 3 (ap (λ (s : Served). s.status) e1) (ap (λ (s : Served). s.status) e2) same (λ h. absurd cc))
+one_check files file cert answer other (FileTooLong m1 e1) (CertificateTooLong p2 s2 m2 e2) same = absurd (too_long_given files file 1048576 s2.bytes m1 s2.given)
+one_check files file cert answer other (FileTooLong m1 e1) (Rejected p2 t2 s2 g2 v2 e2) same = absurd (other_status answer other 4 1 (ap (λ (s : Served). s.status) e1) (ap (λ (s : Served). s.status) e2) same (λ h. absurd cc))
+one_check files file cert answer other (FileTooLong m1 e1) (Accepted p2 t2 s2 g2 v2 e2) same = absurd (other_status answer other 4 0 (ap (λ (s : Served). s.status) e1) (ap (λ (s : Served). s.status) e2) same (λ h. absurd cc))
+one_check files file cert answer other (UnbuiltFile b1 g1 n1 e1) (FileTooLong m2 e2) same = absurd (other_status answer other 3 4 (ap (λ (s : Served). s.status) e1) (ap (λ (s : Served). s.status) e2) same (λ h. absurd cc))
+one_check files file cert answer other (UnbuiltFile b1 g1 n1 e1) (UnbuiltFile b2 g2 n2 e2) same = e2 ∙ sym e1
+one_check files file cert answer other (UnbuiltFile b1 g1 n1 e1) (CertificateTooLong p2 s2 m2 e2) same = absurd (other_status answer other 3 4 (ap (λ (s : Served). s.status) e1) (ap (λ (s : Served). s.status) e2) same (λ h. absurd cc))
+one_check files file cert answer other (UnbuiltFile b1 g1 n1 e1) (Rejected p2 t2 s2 g2 v2 e2) same = absurd (other_status answer other 3 1 (ap (λ (s : Served). s.status) e1) (ap (λ (s : Served). s.status) e2) same (λ h. absurd cc))
+one_check files file cert answer other (UnbuiltFile b1 g1 n1 e1) (Accepted p2 t2 s2 g2 v2 e2) same = absurd (other_status answer other 3 0 (ap (λ (s : Served). s.status) e1) (ap (λ (s : Served). s.status) e2) same (λ h. absurd cc))
+one_check files file cert answer other (CertificateTooLong p1 s1 m1 e1) (FileTooLong m2 e2) same = absurd (too_long_given files file 1048576 s1.bytes m2 s1.given)
+one_check files file cert answer other (CertificateTooLong p1 s1 m1 e1) (UnbuiltFile b2 g2 n2 e2) same = absurd (other_status answer other 4 3 (ap (λ (s : Served). s.status) e1) (ap (λ (s : Served). s.status) e2) same (λ h. absurd cc))
+one_check files file cert answer other (CertificateTooLong p1 s1 m1 e1) (CertificateTooLong p2 s2 m2 e2) same = e2 ∙ sym e1
+one_check files file cert answer other (CertificateTooLong p1 s1 m1 e1) (Rejected p2 t2 s2 g2 v2 e2) same = absurd (other_status answer other 4 1 (ap (λ (s : Served). s.status) e1) (ap (λ (s : Served). s.status) e2) same (λ h. absurd cc))
+one_check files file cert answer other (CertificateTooLong p1 s1 m1 e1) (Accepted p2 t2 s2 g2 v2 e2) same = absurd (other_status answer other 4 0 (ap (λ (s : Served). s.status) e1) (ap (λ (s : Served). s.status) e2) same (λ h. absurd cc))
+one_check files file cert answer other (Rejected p1 t1 s1 g1 v1 e1) (FileTooLong m2 e2) same = absurd (other_status answer other 1 4 (ap (λ (s : Served). s.status) e1) (ap (λ (s : Served). s.status) e2) same (λ h. absurd cc))
+one_check files file cert answer other (Rejected p1 t1 s1 g1 v1 e1) (UnbuiltFile b2 g2 n2 e2) same = absurd (other_status answer other 1 3 (ap (λ (s : Served). s.status) e1) (ap (λ (s : Served). s.status) e2) same (λ h. absurd cc))
+one_check files file cert answer other (Rejected p1 t1 s1 g1 v1 e1) (CertificateTooLong p2 s2 m2 e2) same = absurd (other_status answer other 1 4 (ap (λ (s : Served). s.status) e1) (ap (λ (s : Served). s.status) e2) same (λ h. absurd cc))
+one_check files file cert answer other (Rejected p1 t1 s1 g1 v1 e1) (Rejected p2 t2 s2 g2 v2 e2) same = e2 ∙ sym e1
+one_check files file cert answer other (Rejected p1 t1 s1 g1 v1 e1) (Accepted p2 t2 s2 g2 v2 e2) same = absurd (other_status answer other 1 0 (ap (λ (s : Served). s.status) e1) (ap (λ (s : Served). s.status) e2) same (λ h. absurd cc))
+one_check files file cert answer other (Accepted p1 t1 s1 g1 v1 e1) (FileTooLong m2 e2) same = absurd (other_status answer other 0 4 (ap (λ (s : Served). s.status) e1) (ap (λ (s : Served). s.status) e2) same (λ h. absurd cc))
+one_check files file cert answer other (Accepted p1 t1 s1 g1 v1 e1) (UnbuiltFile b2 g2 n2 e2) same = absurd (other_status answer other 0 3 (ap (λ (s : Served). s.status) e1) (ap (λ (s : Served). s.status) e2) same (λ h. absurd cc))
+one_check files file cert answer other (Accepted p1 t1 s1 g1 v1 e1) (CertificateTooLong p2 s2 m2 e2) same = absurd (other_status answer other 0 4 (ap (λ (s : Served). s.status) e1) (ap (λ (s : Served). s.status) e2) same (λ h. absurd cc))
+one_check files file cert answer other (Accepted p1 t1 s1 g1 v1 e1) (Rejected p2 t2 s2 g2 v2 e2) same = absurd (other_status answer other 0 1 (ap (λ (s : Served). s.status) e1) (ap (λ (s : Served). s.status) e2) same (λ h. absurd cc))
+one_check files file cert answer other (Accepted p1 t1 s1 g1 v1 e1) (Accepted p2 t2 s2 g2 v2 e2) same = e2 ∙ sym e1
+
+one_answer : (files : Files) (command : Command) (answer other : Served) → Answers (Some files) command answer → Answers (Some files) command other → answer.status ≡ other.status → other ≡ answer
+one_answer files (Check file cert) answer other h k same = one_check files file cert answer other h k same
+one_answer files (Core file) answer other h k same = one_core files file answer other h k
+one_answer files Unknown answer other h k same = k ∙ sym h
+
+abbrev served_of : ℕ → List ℕ → List ℕ → Served
+served_of status out errs = record { status = status; out = out; errs = errs }
+
+-- what was served is the answer that was given
+given_served : (files : Files) (command : Command) (served answer : Served) → Answers (Some files) command answer → served.status ≡ answer.status →
+    Answered (Some files) command served.status (Some []) (Some served.out) (Some []) (Some served.errs) 0 0 → served ≡ answer
+given_served files command served answer h same given = same_served given.status_is given.printed given.refused ∙ one_answer files command answer given.answer h given.is (sym same ∙ given.status_is)
+  where
+    same_served : served.status ≡ given.answer.status → Appends (Some []) given.answer.out (Some served.out) → Writes (Some []) given.answer.errs (Some served.errs) 0 0 → served ≡ given.answer
+    same_served e o (inl w) =
+        let printed_same : served.out ≡ given.answer.out = cc in
+        let refused_same : served.errs ≡ given.answer.errs = cc in
+        ap (λ (n : ℕ). served_of n served.out served.errs) e ∙ ap (λ (text : List ℕ). served_of given.answer.status text served.errs) printed_same
+        ∙ ap (λ (text : List ℕ). served_of given.answer.status given.answer.out text) refused_same
+    same_served e o (inr cut) = absurd (grind arith)
+
+pub served_exactly : (told : Option Files) (command : Command) (served : Served) → served.status ≢ 6 →
+    (IsSettled served.status → Answered told command served.status (Some []) (Some served.out) (Some []) (Some served.errs) 0 0) →
+    IfSome told (λ files. (answer : Served) → Answers (Some files) command answer → Becomes answer served.status (Some []) (Some served.out)) →
+    IfSome told (λ files. (answer : Served) → Answers (Some files) command answer → (served ≡ answer) ⊎ ((served.status ≡ 5) ⊎ (served.status ≡ 7)))
+served_exactly None command served quiet answered exactly = search rules
+served_exactly (Some files) command served quiet answered exactly = λ answer h. by_fate answer h (exactly answer h) (nat_eq served.status 5) (nat_eq served.status 7) refl refl
+  where
+    by_fate : (answer : Served) → Answers (Some files) command answer → Becomes answer served.status (Some []) (Some served.out) → (five seven : Bool) → nat_eq served.status 5 ≡ five → nat_eq served.status 7 ≡ seven →
+        (served ≡ answer) ⊎ ((served.status ≡ 5) ⊎ (served.status ≡ 7))
+    by_fate answer h (sinks.ReadFault a s o) five seven e f = inr (inl s)
+    by_fate answer h (sinks.WriteFault a s o) five seven e f = absurd (quiet s)
+    by_fate answer h (sinks.NoMemory s o) five seven e f = inr (inr s)
+    by_fate answer h (sinks.Given s o) true seven e f = inr (inl (grind arith))
+    by_fate answer h (sinks.Given s o) false true e f = inr (inr (grind arith))
+    by_fate answer h (sinks.Given s o) false false e f =
+        inl (given_served files command served answer h s (answered (record { no_read_fault = λ five. absurd (grind arith); no_write_fault = quiet; memory = λ seven. absurd (grind arith) })))

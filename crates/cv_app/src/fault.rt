@@ -61,12 +61,7 @@ impl From<AllocError> for Fault {
 }
 
 /// The line of a file that has a fault of this name on a line.
-fn fault_line(
-    alloc: Global,
-    file: &[u8],
-    number: u32,
-    name: &[u8],
-) -> Result<Vec<u8>, AllocError>
+fn fault_line(alloc: Global, file: &[u8], number: u32, name: &[u8]) -> Result<Vec<u8>, AllocError>
     ensures { IfOk result (λ text. text.items ≡ fault_text file.now number name.now) }
 {
     let mut text = Vec::from_slice(alloc, file)?;

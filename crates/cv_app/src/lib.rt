@@ -4,13 +4,13 @@
 mod answer;
 mod app;
 mod check;
+#[cfg(test)]
+mod core_tests;
 mod fault;
 mod print_command;
 mod program;
 mod request;
 mod served;
-#[cfg(test)]
-mod core_tests;
 #[cfg(test)]
 mod tests;
 

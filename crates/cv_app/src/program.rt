@@ -28,7 +28,7 @@ fn read_text(alloc: Global, bytes: &[u8]) -> Result<Program, Fault>
 }
 
 /// The program, where it passes no limit and is well formed.
-fn well_formed(alloc: Global, program: Program) -> Result<Program, Fault>
+fn tested(alloc: Global, program: Program) -> Result<Program, Fault>
     ensures formed { (name : List ℕ) → UnlessHindered result (outcome_of name result ≡ by_limit name program (first_limit program)) }
     ensures faults { IfErr result IsFileFault }
     ensures no_read_fault { result ≢ Err Fault.Read }
@@ -54,7 +54,7 @@ fn program_of_bytes(alloc: Global, name: &[u8], bytes: &[u8]) -> Result<Program,
         return Err(Fault::NotBuilt { line: 1 });
     }
     let program = read_text(alloc, bytes)?;
-    well_formed(alloc, program)
+    tested(alloc, program)
 }
 
 /// The program for which a file stands: its text is loaded and read, and its limits and its shape are tested.

@@ -9,4 +9,4 @@ returns-in_err-program-clause-answer g c =
 
 pub returns-clause-answer : goal.returns-clause-answer
 returns-clause-answer g c =
-    core_text_found (g.S.Store.content c.args.store.now) c.args.file.now c.in_ok-text.text.items c.in_ok-program.program c.in_ok-text.ensures c.in_ok-program.ensures.found
+    core_text_found (g.S.Store.content c.args.store.now) c.args.file.now c.in_ok-text.text.items c.in_ok-program.program c.in_ok-text.ensures.text c.in_ok-program.ensures.found

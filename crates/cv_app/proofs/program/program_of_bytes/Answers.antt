@@ -1,3 +1,4 @@
+use Rattle.std.proofs.Common.{rules}
 use Rattle.std.proofs.lemmas.Result.{err_from_is_err_and}
 use Rattle.cv_app.proofs.FileLemmas.{given_refused, given_formed}
 use Rattle.cv_app.proofs.program.program_of_bytes.Goals as goal
@@ -8,4 +9,4 @@ returns-in_err-program-clause-given c =
     rw (left.1, left.2) (given_refused c.args.name.now c.args.bytes.now c.in_err-program.field-0.0 (search rules) c.in_err-program.ensures.faults c.in_err-program.ensures.read)
 
 pub returns-clause-given : goal.returns-clause-given
-returns-clause-given c = given_formed c.args.name.now c.args.bytes.now c.in_ok-program.program c.well_formed.result (search rules) c.in_ok-program.ensures.read (c.well_formed.ensures.formed c.args.name.now)
+returns-clause-given c = given_formed c.args.name.now c.args.bytes.now c.in_ok-program.program c.tested.result (search rules) c.in_ok-program.ensures.read (c.tested.ensures.formed c.args.name.now)
