@@ -63,6 +63,16 @@ fn count(source: &[u8]) -> u64 {
     found
 }
 
+fn run(rt: &impl Print, alloc: Global, bytes: u32, repeats: u32, comment: bool) -> Result<()> {
+    let source = text(alloc, bytes as usize, comment)?;
+    let mut tokens = 0u64;
+    for _ in 0..repeats {
+        tokens = count(&source);
+    }
+    rt.println(tokens)?;
+    Ok(())
+}
+
 fn main(rt: HostRuntime) -> Result<()> {
     let mut numbers = [0u32; 3];
     for (place, word) in env::args(&rt)?.skip(1).take(3).enumerate() {
@@ -70,13 +80,7 @@ fn main(rt: HostRuntime) -> Result<()> {
             *slot = number;
         }
     }
-    let source = text(rt.alloc(), numbers[0] as usize, numbers[2] == 1)?;
-    let mut tokens = 0u64;
-    for _ in 0..numbers[1] {
-        tokens = count(&source);
-    }
-    rt.println(tokens)?;
-    Ok(())
+    run(&rt, rt.alloc(), numbers[0], numbers[1], numbers[2] == 1)
 }
 PROGRAM
 
