@@ -1,28 +1,25 @@
 -- What the lexer of CoreC and C finds in front of a text is the token of the grammar there.
-use Rattle.std.proofs.Common.{◌≡◌, ℕ, zero, suc, ◌+◌, ◌-◌, ◌<◌, ◌≤◌, ◌^◌, Bool, true, false, cond, ◌&&◌, ◌||◌, nat_eq, nat_lt, nat_le, min, List, [], ◌∷◌, codes, length, take, drop, get_or, Option, Some, None, Result, Ok, Err, refl, sym, ap, subst, ◌∙◌, arith, if◌then◌else◌, length-take}
+use Rattle.std.proofs.Common.{◌≡◌, ℕ, zero, suc, ◌+◌, ◌-◌, ◌<◌, ◌≤◌, ◌^◌, Bool, true, false, cond, ◌||◌, nat_eq, nat_lt, nat_le, min, List, [], ◌∷◌, codes, length, take, drop, get_or, Option, Some, None, Result, Ok, Err, refl, sym, ap, subst, ◌∙◌, arith, length-take}
 use Rattle.std.proofs.lemmas.List.{take_all}
 use Rattle.std.proofs.lemmas.List.Folds.{length-prefix_len}
-use Rattle.std.proofs.lemmas.List.Sums.{take_while-cons}
 use Rattle.std.proofs.lemmas.Bool.Decides.{nat_tests}
-use Rattle.std.specs.List.{list_any, take_while, prefix_len}
+use Rattle.std.specs.List.{list_any, take_while}
 use Rattle.cv_core.specs.Grammar.{is_letter, is_digit}
-use Rattle.cv_lex.specs.Bytes.{is_hex_digit, value_of}
-use Rattle.cv_lex.specs.Parts.{Fits, begun, double_signs, is_single, marked, number, part_or, plain, sign, sized}
-use Rattle.cv_lex.specs.Tokens.{Cursor, Piece, Tokens, first_answer, first_of, starts_line, tokens_behind, tokens_from}
+use Rattle.cv_lex.specs.Parts.{Fits, begun, marked, number, part_or, plain, sign, sized}
+use Rattle.cv_lex.specs.Tokens.{Cursor, Piece, first_answer, first_of, tokens_behind, tokens_from}
 use Rattle.cv_lex.specs.Given.{OnToken, end_of}
 use Rattle.cv_lex.specs.declared.token.Token.{Token}
 use Rattle.cv_lex.specs.declared.begin.Front.{Front}
 use Rattle.cv_lex.specs.declared.begin.Front.TheVariants as front
 use Rattle.cv_lex.specs.declared.token.LexFault.{LexFault}
-use Rattle.cv_lex.specs.declared.token.LexRule.{LexRule}
 use Rattle.cv_lex.specs.declared.token.LexRule.TheVariants as rule
 use Rattle.cv_lex.specs.declared.token.TokenKind.{TokenKind}
 use Rattle.cv_lex.specs.declared.token.TokenKind.TheVariants as kind
 use Rattle.cv_lex.proofs.Fits.{begun_fits}
-use Rattle.cv_text.specs.Lexed.{fault_lexed, lexed, number_lexed, sign_lexed, token_lexed, word_lexed}
+use Rattle.cv_text.specs.Lexed.{fault_lexed, lexed, number_lexed, token_lexed, word_lexed}
 use Rattle.cv_text.specs.Spelling.{foreign}
 use Rattle.cv_text.specs.Tokens.{Lexeme, begins, digits, is_blank, is_name_byte, key_of, name_or, other, run, sign_at, sign_or, token_at}
-use Rattle.cv_text.specs.Seen.{begins_blank, StandsAt}
+use Rattle.cv_text.specs.Seen.{begins_blank}
 use Rattle.cv_text.proofs.Lexing.{run_opens, stands}
 
 -- ---- what begins is what is found
@@ -246,49 +243,49 @@ letter_is_no_zero c h = grind (arith, nat_tests)
 no_foreign : (c : ℕ) (cs : List ℕ) → Other c → nat_eq 48 c ≡ false → list_any (begins (c ∷ cs)) foreign ≡ false
 no_foreign c cs h k = rw (not_it c 47 h refl, not_it c 43 h refl, k) refl
 
+-- the two choices by their tests
+abbrev by_tests : Bool → Bool → Bool → List ℕ → Lexeme × ℕ
+by_tests is_foreign letter digit text = cond is_foreign (other, 1)
+    (cond letter (name_or (take_while is_name_byte text) (key_of (take_while is_name_byte text)), run is_name_byte text) (cond digit (digits (take_while is_digit text), run is_digit text) (sign_or (sign_at text))))
+
+abbrev plainly : Bool → Bool → ℕ → List ℕ → Front
+plainly letter digit c text = cond letter (front.Part kind.Word (run is_name_byte text)) (cond digit (number text) (sign c text))
+
+plain_is : (c : ℕ) (cs : List ℕ) (l d : Bool) → Other c → is_letter c ≡ l → is_digit c ≡ d → begun true c (c ∷ cs) ≡ plainly l d c (c ∷ cs)
+plain_is c cs l d h e f = begins_plain c cs h ∙ ap (λ (b : Bool). plainly b (is_digit c) c (c ∷ cs)) e ∙ ap (λ (b : Bool). plainly l b c (c ∷ cs)) f
+
+token_is : (c : ℕ) (cs : List ℕ) (a l d : Bool) → list_any (begins (c ∷ cs)) foreign ≡ a → is_letter c ≡ l → is_digit c ≡ d → by_tests a l d (c ∷ cs) ≡ token_at c (c ∷ cs)
+token_is c cs a l d g e f = sym (ap (λ (b : Bool). by_tests b (is_letter c) (is_digit c) (c ∷ cs)) g ∙ ap (λ (b : Bool). by_tests a b (is_digit c) (c ∷ cs)) e ∙ ap (λ (b : Bool). by_tests a l b (c ∷ cs)) f)
+
 letter_found : (m c : ℕ) → Other c → is_letter c ≡ true → Found m c
 letter_found m c h k cs =
     let part : List ℕ = c ∷ take (suc m) cs in
-    let f : begun true c part ≡ front.Part kind.Word (run is_name_byte part) =
-    begins_plain c (take (suc m) cs) h ∙ ap (λ (b : Bool). cond b (front.Part kind.Word (run is_name_byte part)) (cond (is_digit c) (number part) (sign c part))) k in
+    let f : begun true c part ≡ front.Part kind.Word (run is_name_byte part) = plain_is c (take (suc m) cs) true (is_digit c) h k refl in
     let fits : Fits part (front.Part kind.Word (run is_name_byte part)) = subst (Fits part) f (begun_fits true c (take (suc m) cs)) in
-    ap (by_front (c ∷ cs) part) f ∙ word_is (suc (suc m)) (c ∷ cs) fits.1
-    ∙ sym (ap (λ (b : Bool). cond b (other, 1) (cond (is_letter c) (name_or (take_while is_name_byte (c ∷ cs)) (key_of (take_while is_name_byte (c ∷ cs))), run is_name_byte (c ∷ cs)) (cond (is_digit c) (digits (take_while is_digit (c ∷ cs)), run is_digit (c ∷ cs)) (sign_or (sign_at (c ∷ cs)))))) (no_foreign c cs h (letter_is_no_zero c k))
-    ∙ ap (λ (b : Bool). cond b (name_or (take_while is_name_byte (c ∷ cs)) (key_of (take_while is_name_byte (c ∷ cs))), run is_name_byte (c ∷ cs)) (cond (is_digit c) (digits (take_while is_digit (c ∷ cs)), run is_digit (c ∷ cs)) (sign_or (sign_at (c ∷ cs))))) k)
+    ap (by_front (c ∷ cs) part) f ∙ word_is (suc (suc m)) (c ∷ cs) fits.1 ∙ token_is c cs false true (is_digit c) (no_foreign c cs h (letter_is_no_zero c k)) k refl
 
 digit_found : (m c : ℕ) → Other c → is_letter c ≡ false → is_digit c ≡ true → Found m c
 digit_found m c h k l cs =
-    let part : List ℕ = c ∷ take (suc m) cs in
-    let f : begun true c part ≡ number part =
-    begins_plain c (take (suc m) cs) h ∙ ap (λ (b : Bool). cond b (front.Part kind.Word (run is_name_byte part)) (cond (is_digit c) (number part) (sign c part))) k ∙ ap (λ (b : Bool). cond b (number part) (sign c part)) l in
-    ap (by_front (c ∷ cs) part) f ∙ number_is (c ∷ cs) part
-    ∙ sym (ap (λ (b : Bool). cond b (other, 1) (cond (is_letter c) (name_or (take_while is_name_byte (c ∷ cs)) (key_of (take_while is_name_byte (c ∷ cs))), run is_name_byte (c ∷ cs)) (cond (is_digit c) (digits (take_while is_digit (c ∷ cs)), run is_digit (c ∷ cs)) (sign_or (sign_at (c ∷ cs)))))) (only_prefix h)
-    ∙ ap (λ (b : Bool). cond (begins (c ∷ cs) (codes "0x")) (other, 1) (cond b (name_or (take_while is_name_byte (c ∷ cs)) (key_of (take_while is_name_byte (c ∷ cs))), run is_name_byte (c ∷ cs)) (cond (is_digit c) (digits (take_while is_digit (c ∷ cs)), run is_digit (c ∷ cs)) (sign_or (sign_at (c ∷ cs)))))) k
-    ∙ ap (λ (b : Bool). cond (begins (c ∷ cs) (codes "0x")) (other, 1) (cond b (digits (take_while is_digit (c ∷ cs)), run is_digit (c ∷ cs)) (sign_or (sign_at (c ∷ cs))))) l)
+    ap (by_front (c ∷ cs) (c ∷ take (suc m) cs)) (plain_is c (take (suc m) cs) false true h k l) ∙ number_is (c ∷ cs) (c ∷ take (suc m) cs)
+    ∙ token_is c cs (begins (c ∷ cs) (codes "0x")) false true only_prefix k l
   where
     last : (b : Bool) → (b || false) ≡ b
     last true = refl
     last false = refl
 
-    only_prefix : Other c → list_any (begins (c ∷ cs)) foreign ≡ begins (c ∷ cs) (codes "0x")
-    only_prefix h = rw (not_it c 47 h refl, not_it c 43 h refl) (last (begins (c ∷ cs) (codes "0x")))
+    only_prefix : list_any (begins (c ∷ cs)) foreign ≡ begins (c ∷ cs) (codes "0x")
+    only_prefix = rw (not_it c 47 h refl, not_it c 43 h refl) (last (begins (c ∷ cs) (codes "0x")))
 
 nothing_found : (m c : ℕ) → Other c → is_letter c ≡ false → is_digit c ≡ false → Found m c
 nothing_found m c h k l cs =
-    let part : List ℕ = c ∷ take (suc m) cs in
-    let f : begun true c part ≡ sign c part =
-    begins_plain c (take (suc m) cs) h ∙ ap (λ (b : Bool). cond b (front.Part kind.Word (run is_name_byte part)) (cond (is_digit c) (number part) (sign c part))) k ∙ ap (λ (b : Bool). cond b (number part) (sign c part)) l in
-    ap (by_front (c ∷ cs) part) f ∙ none h
-    ∙ sym (ap (λ (b : Bool). cond b (other, 1) (cond (is_letter c) (name_or (take_while is_name_byte (c ∷ cs)) (key_of (take_while is_name_byte (c ∷ cs))), run is_name_byte (c ∷ cs)) (cond (is_digit c) (digits (take_while is_digit (c ∷ cs)), run is_digit (c ∷ cs)) (sign_or (sign_at (c ∷ cs)))))) (no_foreign c cs h (zero_is_digit c l))
-    ∙ ap (λ (b : Bool). cond b (name_or (take_while is_name_byte (c ∷ cs)) (key_of (take_while is_name_byte (c ∷ cs))), run is_name_byte (c ∷ cs)) (cond (is_digit c) (digits (take_while is_digit (c ∷ cs)), run is_digit (c ∷ cs)) (sign_or (sign_at (c ∷ cs))))) k
-    ∙ ap (λ (b : Bool). cond b (digits (take_while is_digit (c ∷ cs)), run is_digit (c ∷ cs)) (sign_or (sign_at (c ∷ cs)))) l
-    ∙ ap sign_or (no_sign h))
+    ap (by_front (c ∷ cs) (c ∷ take (suc m) cs)) (plain_is c (take (suc m) cs) false false h k l) ∙ bad_byte
+    ∙ ap sign_or (sym no_sign) ∙ token_is c cs false false false (no_foreign c cs h (zero_is_digit c l)) k l
   where
     zero_is_digit : (c : ℕ) → is_digit c ≡ false → nat_eq 48 c ≡ false
     zero_is_digit c e = grind (arith, nat_tests)
 
-    none : Other c → by_front (c ∷ cs) (c ∷ take (suc m) cs) (sign c (c ∷ take (suc m) cs)) ≡ (other, 1)
-    none h =
+    bad_byte : by_front (c ∷ cs) (c ∷ take (suc m) cs) (sign c (c ∷ take (suc m) cs)) ≡ (other, 1)
+    bad_byte =
         rw (
           not_it c 61 h refl,
           not_it c 60 h refl,
@@ -320,8 +317,8 @@ nothing_found m c h k l cs =
           it_is_not c 93 h refl,
         ) refl
 
-    no_sign : Other c → sign_at (c ∷ cs) ≡ None
-    no_sign h =
+    no_sign : sign_at (c ∷ cs) ≡ None
+    no_sign =
         rw (
           not_it c 61 h refl,
           not_it c 60 h refl,

@@ -1,4 +1,3 @@
-use Rattle.std.proofs.Common.{ap, ◌∙◌}
 use Rattle.cv_lex.specs.Given.{seen as given}
 use Rattle.cv_text.proofs.Lexed.{found_is, found_within}
 use Rattle.cv_text.proofs.lexer.front.Goals as goal
