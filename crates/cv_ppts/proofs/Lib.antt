@@ -6,3 +6,11 @@ pub mod Peeled
 pub mod Spliced
 pub mod Terms
 pub mod Worked
+pub mod Keyed
+pub mod Opened
+pub mod Coded
+pub mod Lacked
+pub mod Called
+pub mod Overs
+pub mod Formals
+pub mod Closing

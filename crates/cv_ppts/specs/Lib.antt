@@ -5,3 +5,11 @@ pub mod Seen
 pub mod Cases
 pub mod Listed
 pub mod FirstSeen
+pub mod Setting
+pub mod Plain
+pub mod Choices
+pub mod Outcomes
+pub mod Targets
+pub mod Keys
+pub mod Picked
+pub mod Lacking

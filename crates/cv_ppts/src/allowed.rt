@@ -28,7 +28,7 @@ pub(crate) struct View<'a> {
 }
 
 /// The number of the first of the pointer formals that has the name.
-fn formal_number(formals: &[Formal], name: &[u8]) -> Option<usize>
+pub(crate) fn formal_number(formals: &[Formal], name: &[u8]) -> Option<usize>
     ensures { result ≡ place_of (λ x. x.name) name.now (filter (λ x. pointer_kind x.kind) formals.now) }
 {
     formals
@@ -38,7 +38,7 @@ fn formal_number(formals: &[Formal], name: &[u8]) -> Option<usize>
 }
 
 /// How many of the formals are pointers.
-fn formal_count(formals: &[Formal]) -> usize
+pub(crate) fn formal_count(formals: &[Formal]) -> usize
     ensures { result ≡ length (filter (λ x. pointer_kind x.kind) formals.now) }
 {
     formals.iter().filter(|x| is_pointer_kind(x.kind)).count()
@@ -59,7 +59,7 @@ fn number_among(numbers: &[u32], number: Option<usize>) -> Option<usize>
     }
 }
 
-fn code_at(codes: &[u32], number: Option<usize>) -> u32
+pub(crate) fn code_at(codes: &[u32], number: Option<usize>) -> u32
     ensures { result ≡ code_at_of codes.now number }
 {
     match number {
@@ -72,7 +72,7 @@ fn code_at(codes: &[u32], number: Option<usize>) -> u32
 }
 
 /// The code at a place behind the first ones.
-fn code_behind(codes: &[u32], first: usize, number: usize) -> u32
+pub(crate) fn code_behind(codes: &[u32], first: usize, number: usize) -> u32
     ensures { result ≡ slice_index_or codes.now (first + number) 0 }
 {
     if first > codes.len() || number >= codes.len() - first {
@@ -302,7 +302,7 @@ fn has_changed_literal(v: &View, literals: &[u32], items: &[Item]) -> bool
 }
 
 /// The first elements of a slice, as many as there are.
-fn first(codes: &[u32], count: usize) -> &[u32]
+pub(crate) fn first(codes: &[u32], count: usize) -> &[u32]
     ensures { result.now ≡ take count codes.now }
 {
     if count < codes.len() {
@@ -313,7 +313,7 @@ fn first(codes: &[u32], count: usize) -> &[u32]
 }
 
 /// What stands behind the first elements of a slice.
-fn behind(codes: &[u32], count: usize) -> &[u32]
+pub(crate) fn behind(codes: &[u32], count: usize) -> &[u32]
     ensures { result.now ≡ drop count codes.now }
 {
     if count < codes.len() {

@@ -18,3 +18,11 @@ pub enum CaseError {
     #[error("out of memory")]
     Memory,
 }
+
+/// The codes that pointers can have inside a procedure: one ascending set for each pointer variable, the formals before
+/// the locals, and then for what each target that is a pointer cell holds. Code 0 is null, -1 that nothing is known, and
+/// t from 1 on the target t: first the blocks of the case, then the local objects, then what the statements allocate.
+#[derive(Debug, Drop)]
+pub struct Targets {
+    pub sets: List<List<i32>>,
+}

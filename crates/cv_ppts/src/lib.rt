@@ -3,13 +3,21 @@
 
 mod allowed;
 mod blocks;
+mod calls;
+mod closed;
 mod codes;
 mod entities;
 mod listing;
 mod named;
+mod outcomes;
+mod picks;
+mod places;
+mod scope;
 mod search;
+mod sets;
 
-pub use codes::{Case, CaseError};
+pub use closed::targets_closed;
+pub use codes::{Case, CaseError, Targets};
 pub use entities::Class;
 pub use listing::cases;
 

@@ -63,7 +63,7 @@ fn as_cases(alloc: Global, lists: Vec<List<u32>>) -> Result<Vec<Case>, AllocErro
     Ok(cases)
 }
 
-fn proc_at(p: &Program, proc: usize) -> Option<&Proc>
+pub(crate) fn proc_at(p: &Program, proc: usize) -> Option<&Proc>
     ensures value { option_copied result ≡ slice_get p.now.procs proc }
     ensures within { OnSome result (proc < length p.now.procs) }
 {

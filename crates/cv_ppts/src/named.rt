@@ -20,7 +20,7 @@ pub(crate) fn is_pointer_kind(kind: VarKind) -> bool
 }
 
 /// The class of the objects to which a variable points.
-fn class_of_kind(kind: VarKind) -> Class
+pub(crate) fn class_of_kind(kind: VarKind) -> Class
     ensures { result ≡ class_of_variable kind }
 {
     match kind {
@@ -132,14 +132,14 @@ fn literals(p: &Program) -> &[Literal]
 }
 
 /// The number of the first literal that has the name.
-fn literal_named(p: &Program, name: &Bytes) -> Option<usize>
+pub(crate) fn literal_named(p: &Program, name: &Bytes) -> Option<usize>
     ensures { result ≡ place_of (λ l. l.name) name.now p.now.literals }
 {
     literal_number(literals(p), name.as_slice())
 }
 
 /// The number of the literal whose address a statement takes.
-fn literal_in(p: &Program, form: &Form) -> Option<usize>
+pub(crate) fn literal_in(p: &Program, form: &Form) -> Option<usize>
     ensures { result ≡ literal_number_in p.now form.now }
 {
     match form {
@@ -207,7 +207,7 @@ pub(crate) fn listed_of(alloc: Global, p: &Program, f: &Proc) -> Result<Vec<u32>
 }
 
 /// The statements of a procedure; none without a body.
-fn stmts_of(f: &Proc) -> &[Stmt]
+pub(crate) fn stmts_of(f: &Proc) -> &[Stmt]
     ensures { result.now ≡ stmts_in f.now.body }
 {
     match &f.body {
@@ -225,13 +225,20 @@ fn literals_of(alloc: Global, p: &Program, f: &Proc) -> Result<Vec<u32>, AllocEr
     Ok(numbers)
 }
 
-fn class_at(global: Option<&GlobalDecl>) -> Class
+pub(crate) fn class_at(global: Option<&GlobalDecl>) -> Class
     ensures { result ≡ class_at_of (option_copied global.entry) }
 {
     match global {
         None => Class::Buffer,
         Some(g) => class_of_global(g.body),
     }
+}
+
+/// The class of the global of a number; a buffer where there is none.
+pub(crate) fn class_of_global_number(p: &Program, number: usize) -> Class
+    ensures { result ≡ class_at_of (slice_get p.now.globals number) }
+{
+    class_at(p.globals.get(number))
 }
 
 fn class_of_number(p: &Program, number: u32) -> Class

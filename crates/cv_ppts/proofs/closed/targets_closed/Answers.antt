@@ -1,0 +1,11 @@
+use Rattle.std.proofs.Common.{ap, sym, ◌∙◌}
+use Rattle.std.specs.Option.{option_copied}
+use Rattle.cv_ppts.proofs.Closing.{closed_none, closed_some}
+use Rattle.cv_ppts.proofs.closed.targets_closed.Goals as goal
+
+pub returns-in-None : goal.returns-in-None
+returns-in-None c = record { closed = closed_none c.args.p.now c.args.proc c.args.case.now.codes c.args.targets.now.sets (sym c.proc_at.ensures.value ∙ ap option_copied c.in-None.is) }
+
+pub returns-in-Some : goal.returns-in-Some
+returns-in-Some c =
+    record { closed = closed_some c.args.p.now c.args.proc c.in-Some.f.now _ _ _ _ c.is_closed.result (sym c.proc_at.ensures.value ∙ ap option_copied c.in-Some.is) c.as_slice.ensures c.as_slice-in-Some.ensures c.is_closed.ensures }

@@ -1,0 +1,404 @@
+//! What rules ask of the sets of codes and the sets lack.
+ghost use Rattle.std.specs.Prelude.{◌≡◌, ◌+◌, ◌<◌, ◌^◌, Contains, MatchBool, MatchOption, pos, ℤ};
+ghost use Rattle.cv_points.specs.Holders.{variable_number as variable_number_of};
+ghost use Rattle.cv_ppts.specs.Keys.{setting};
+ghost use Rattle.cv_ppts.specs.Setting.{target_of_name as target_of_name_in};
+ghost use Rattle.cv_ppts.specs.Lacking.{HasAll, Lacks};
+ghost use Rattle.cv_ppts.specs.Plain.{HasCode, Holds, Includes, MaybeHolds, MovesTo, NullTo, ReadsFrom, WritesTo, AreCoded, AreUnknown, at, both, codes_at, copy_rule as copy_rule_of, content_in as content_in_of, place_of_variable as place_of_variable_in, plain_rule as plain_rule_of, put_rule as put_rule_of};
+
+use crate::allowed::code_at;
+use crate::places::{as_code, content_in, target_of_name, variable_number};
+use crate::scope::Scope;
+use cv_core::{AnyOperand, Bytes, Form, List, Operand};
+
+/// A rule on the sets of codes, which are given by their places.
+#[derive(Clone, Copy, PartialEq, Eq, Debug)]
+pub(crate) enum Rule {
+    /// The set at `to` has `code`.
+    Has { to: u128, code: i128 },
+    /// The set at `from` is within the one at `to`.
+    Includes { from: u128, to: u128 },
+    /// The codes of targets in the set at `from` are in the one at `to`.
+    Moves { from: u128, to: u128 },
+    /// The set of each cell in the set at `pointer` is within the one at `to`.
+    Reads { pointer: u128, to: u128 },
+    /// The set at `from` is within the set of each cell in the set at `pointer`.
+    Writes { from: u128, pointer: u128 },
+    /// The set of each cell in the set at `pointer` has 0.
+    WritesNull { pointer: u128 },
+}
+
+/// A code that is to be in the set at the place `to`, and is not there.
+#[derive(Clone, Copy, PartialEq, Eq, Debug)]
+pub(crate) struct Missing {
+    pub to: u128,
+    pub code: i128,
+}
+
+/// The set at a place, empty where there is none.
+pub(crate) fn set_at(sets: &[List<i32>], place: u128) -> &[i32]
+    ensures { result.now ≡ codes_at sets.now place }
+{
+    if place < sets.len() as u128 {
+        sets[place as usize].as_slice()
+    } else {
+        &[]
+    }
+}
+
+fn contains(set: &[i32], code: i128) -> bool
+    ensures { MatchBool result (Contains set.now code) (Contains set.now code → ⊥) }
+{
+    for c in set {
+        if i128::from(*c) == code {
+            return true;
+        }
+    }
+    false
+}
+
+/// Whether the set at a place has a code.
+pub(crate) fn has_code(sets: &[List<i32>], place: u128, code: i128) -> bool
+    ensures { MatchBool result (HasCode sets.now place code) (HasCode sets.now place code → ⊥) }
+{
+    contains(set_at(sets, place), code)
+}
+
+/// A code that the set at a place is to have.
+pub(crate) fn missing_code(sets: &[List<i32>], to: u128, code: i128) -> Option<Missing>
+    ensures { MatchOption result (HasCode sets.now to code) (λ m. Lacks sets.now (λ R. HasCode R to code) m.to m.code) }
+{
+    if has_code(sets, to, code) {
+        None
+    } else {
+        Some(Missing { to, code })
+    }
+}
+
+fn missing_narrow(sets: &[List<i32>], code: i32, to: u128) -> Option<Missing>
+    ensures { MatchOption result (HasCode sets.now to code) (λ m. Lacks sets.now (λ R. HasCode R to code) m.to m.code) }
+{
+    missing_code(sets, to, i128::from(code))
+}
+
+/// The first of some codes that a set lacks.
+fn missing_of(sets: &[List<i32>], codes: &[i32], to: u128) -> Option<Missing>
+    ensures { MatchOption result (HasAll sets.now codes.now to) (λ m. Lacks sets.now (λ R. HasAll R codes.now to) m.to m.code) }
+{
+    for code in codes {
+        match missing_narrow(sets, *code, to) {
+            None => {}
+            Some(missing) => return Some(missing),
+        }
+    }
+    None
+}
+
+/// A code of the set at `from` that the one at `to` lacks.
+fn missing_within(sets: &[List<i32>], from: u128, to: u128) -> Option<Missing>
+    ensures { MatchOption result (Includes sets.now from to) (λ m. Lacks sets.now (λ R. Includes R from to) m.to m.code) }
+{
+    missing_of(sets, set_at(sets, from), to)
+}
+
+fn missing_moved(sets: &[List<i32>], code: i32, to: u128) -> Option<Missing>
+    ensures { MatchOption result (MovesTo sets.now code to) (λ m. Lacks sets.now (λ R. MovesTo R code to) m.to m.code) }
+{
+    if code > 0 {
+        missing_code(sets, to, i128::from(code))
+    } else {
+        None
+    }
+}
+
+fn missing_moves(sets: &[List<i32>], codes: &[i32], to: u128) -> Option<Missing>
+    ensures { MatchOption result ((c : ℤ) → Contains codes.now c → MovesTo sets.now c to) (λ m. Lacks sets.now (λ R. (c : ℤ) → Contains codes.now c → MovesTo R c to) m.to m.code) }
+{
+    for code in codes {
+        match missing_moved(sets, *code, to) {
+            None => {}
+            Some(missing) => return Some(missing),
+        }
+    }
+    None
+}
+
+fn missing_read(s: &Scope, sets: &[List<i32>], code: i32, to: u128) -> Option<Missing>
+    ensures { MatchOption result (ReadsFrom sets.now (content_in_of (setting s.entry.now) code) to) (λ m. Lacks sets.now (λ R. ReadsFrom R (content_in_of (setting s.entry.now) code) to) m.to m.code) }
+{
+    match content_in(s, code) {
+        None => None,
+        Some(cell) => missing_within(sets, cell, to),
+    }
+}
+
+fn missing_reads(s: &Scope, sets: &[List<i32>], codes: &[i32], to: u128) -> Option<Missing>
+    ensures { MatchOption result ((c : ℤ) → Contains codes.now c → ReadsFrom sets.now (content_in_of (setting s.entry.now) c) to) (λ m. Lacks sets.now (λ R. (c : ℤ) → Contains codes.now c → ReadsFrom R (content_in_of (setting s.entry.now) c) to) m.to m.code) }
+{
+    for code in codes {
+        match missing_read(s, sets, *code, to) {
+            None => {}
+            Some(missing) => return Some(missing),
+        }
+    }
+    None
+}
+
+fn missing_write(s: &Scope, sets: &[List<i32>], from: u128, code: i32) -> Option<Missing>
+    ensures { MatchOption result (WritesTo sets.now from (content_in_of (setting s.entry.now) code)) (λ m. Lacks sets.now (λ R. WritesTo R from (content_in_of (setting s.entry.now) code)) m.to m.code) }
+{
+    match content_in(s, code) {
+        None => None,
+        Some(cell) => missing_within(sets, from, cell),
+    }
+}
+
+fn missing_writes(s: &Scope, sets: &[List<i32>], from: u128, codes: &[i32]) -> Option<Missing>
+    ensures { MatchOption result ((c : ℤ) → Contains codes.now c → WritesTo sets.now from (content_in_of (setting s.entry.now) c)) (λ m. Lacks sets.now (λ R. (c : ℤ) → Contains codes.now c → WritesTo R from (content_in_of (setting s.entry.now) c)) m.to m.code) }
+{
+    for code in codes {
+        match missing_write(s, sets, from, *code) {
+            None => {}
+            Some(missing) => return Some(missing),
+        }
+    }
+    None
+}
+
+fn missing_null(s: &Scope, sets: &[List<i32>], code: i32) -> Option<Missing>
+    ensures { MatchOption result (NullTo sets.now (content_in_of (setting s.entry.now) code)) (λ m. Lacks sets.now (λ R. NullTo R (content_in_of (setting s.entry.now) code)) m.to m.code) }
+{
+    match content_in(s, code) {
+        None => None,
+        Some(cell) => missing_code(sets, cell, 0),
+    }
+}
+
+fn missing_nulls(s: &Scope, sets: &[List<i32>], codes: &[i32]) -> Option<Missing>
+    ensures { MatchOption result ((c : ℤ) → Contains codes.now c → NullTo sets.now (content_in_of (setting s.entry.now) c)) (λ m. Lacks sets.now (λ R. (c : ℤ) → Contains codes.now c → NullTo R (content_in_of (setting s.entry.now) c)) m.to m.code) }
+{
+    for code in codes {
+        match missing_null(s, sets, *code) {
+            None => {}
+            Some(missing) => return Some(missing),
+        }
+    }
+    None
+}
+
+/// What a rule asks of the sets and the sets lack.
+fn missing_by_rule(s: &Scope, sets: &[List<i32>], rule: Rule) -> Option<Missing>
+    ensures { MatchOption result (Holds (setting s.entry.now) sets.now rule) (λ m. Lacks sets.now (λ R. Holds (setting s.entry.now) R rule) m.to m.code) }
+{
+    match rule {
+        Rule::Has { to, code } => missing_code(sets, to, code),
+        Rule::Includes { from, to } => missing_within(sets, from, to),
+        Rule::Moves { from, to } => missing_moves(sets, set_at(sets, from), to),
+        Rule::Reads { pointer, to } => missing_reads(s, sets, set_at(sets, pointer), to),
+        Rule::Writes { from, pointer } => missing_writes(s, sets, from, set_at(sets, pointer)),
+        Rule::WritesNull { pointer } => missing_nulls(s, sets, set_at(sets, pointer)),
+    }
+}
+
+fn missing_by(s: &Scope, sets: &[List<i32>], rule: Option<Rule>) -> Option<Missing>
+    ensures { MatchOption result (MaybeHolds (setting s.entry.now) sets.now rule) (λ m. Lacks sets.now (λ R. MaybeHolds (setting s.entry.now) R rule) m.to m.code) }
+{
+    match rule {
+        None => None,
+        Some(rule) => missing_by_rule(s, sets, rule),
+    }
+}
+
+// ---- the rules of statements
+
+/// The place of the set of the variable that a destination names.
+pub(crate) fn place_of_variable(s: &Scope, name: &Option<Bytes>) -> Option<u128>
+    ensures { result ≡ place_of_variable_in (setting s.entry.now) name.now }
+{
+    match name {
+        None => None,
+        Some(name) => variable_number(s.f, name),
+    }
+}
+
+fn includes(from: Option<u128>, to: Option<u128>) -> Option<Rule>
+    ensures { result ≡ both (λ from to. Rule.Includes from to) from to }
+{
+    match (from, to) {
+        (Some(from), Some(to)) => Some(Rule::Includes { from, to }),
+        _ => None,
+    }
+}
+
+fn moves(from: Option<u128>, to: Option<u128>) -> Option<Rule>
+    ensures { result ≡ both (λ from to. Rule.Moves from to) from to }
+{
+    match (from, to) {
+        (Some(from), Some(to)) => Some(Rule::Moves { from, to }),
+        _ => None,
+    }
+}
+
+fn reads(pointer: Option<u128>, to: Option<u128>) -> Option<Rule>
+    ensures { result ≡ both (λ w to. Rule.Reads w to) pointer to }
+{
+    match (pointer, to) {
+        (Some(pointer), Some(to)) => Some(Rule::Reads { pointer, to }),
+        _ => None,
+    }
+}
+
+fn writes(from: Option<u128>, pointer: Option<u128>) -> Option<Rule>
+    ensures { result ≡ both (λ from w. Rule.Writes from w) from pointer }
+{
+    match (from, pointer) {
+        (Some(from), Some(pointer)) => Some(Rule::Writes { from, pointer }),
+        _ => None,
+    }
+}
+
+fn has(to: Option<u128>, code: i128) -> Option<Rule>
+    ensures { result ≡ at (λ to. Rule.Has to code) to }
+{
+    match to {
+        None => None,
+        Some(to) => Some(Rule::Has { to, code }),
+    }
+}
+
+fn writes_null(pointer: Option<u128>) -> Option<Rule>
+    ensures { result ≡ at (λ w. Rule.WritesNull w) pointer }
+{
+    match pointer {
+        None => None,
+        Some(pointer) => Some(Rule::WritesNull { pointer }),
+    }
+}
+
+fn put_rule(s: &Scope, w: &Bytes, value: &AnyOperand) -> Option<Rule>
+    ensures { result ≡ put_rule_of (setting s.entry.now) w.now value.now }
+{
+    let pointer = variable_number(s.f, w);
+    match value {
+        AnyOperand::Null => writes_null(pointer),
+        AnyOperand::Operand(operand) => match operand {
+            Operand::Var(name) => writes(variable_number(s.f, name), pointer),
+            Operand::Number(_) => None,
+        },
+    }
+}
+
+fn has_target(to: Option<u128>, target: u128) -> Option<Rule>
+    requires { target < 2 ^ 66 }
+    ensures { result ≡ at (λ to. Rule.Has to (pos target)) to }
+{
+    match to {
+        None => None,
+        Some(to) => Some(Rule::Has {
+            to,
+            code: as_code(target),
+        }),
+    }
+}
+
+fn address_rule(s: &Scope, p: &Bytes, object: &Bytes) -> Option<Rule>
+    ensures { result ≡ at (λ to. Rule.Has to (pos (target_of_name_in (setting s.entry.now) object.now))) (variable_number_of s.entry.now.f.now p.now) }
+{
+    has_target(variable_number(s.f, p), target_of_name(s, object))
+}
+
+fn shift_rule(s: &Scope, p: &Bytes, q: &Bytes) -> Option<Rule>
+    ensures { result ≡ both (λ from to. Rule.Moves from to) (variable_number_of s.entry.now.f.now q.now) (variable_number_of s.entry.now.f.now p.now) }
+{
+    moves(variable_number(s.f, q), variable_number(s.f, p))
+}
+
+fn get_rule(s: &Scope, x: &Bytes, w: &Bytes) -> Option<Rule>
+    ensures { result ≡ both (λ w to. Rule.Reads w to) (variable_number_of s.entry.now.f.now w.now) (variable_number_of s.entry.now.f.now x.now) }
+{
+    reads(variable_number(s.f, w), variable_number(s.f, x))
+}
+
+fn copy_rule(s: &Scope, p: &Bytes, q: &Option<Bytes>) -> Option<Rule>
+    ensures { result ≡ copy_rule_of (setting s.entry.now) p.now q.now }
+{
+    match q {
+        None => has(variable_number(s.f, p), 0),
+        Some(q) => includes(variable_number(s.f, q), variable_number(s.f, p)),
+    }
+}
+
+/// The rule of a statement that isn't a call.
+fn plain_rule(s: &Scope, form: &Form) -> Option<Rule>
+    ensures { result ≡ plain_rule_of (setting s.entry.now) form.now }
+{
+    match form {
+        Form::CopyPtr { p, q } => copy_rule(s, p, q),
+        Form::Address { p, object } => address_rule(s, p, object),
+        Form::Shift { p, q, .. } => shift_rule(s, p, q),
+        Form::Get { x, w } => get_rule(s, x, w),
+        Form::Put { w, value } => put_rule(s, w, value),
+        Form::Assign { .. } => None,
+        Form::Sum { .. } => None,
+        Form::Minus { .. } => None,
+        Form::Product { .. } => None,
+        Form::Quotient { .. } => None,
+        Form::Remainder { .. } => None,
+        Form::Load { .. } => None,
+        Form::Store { .. } => None,
+        Form::Diff { .. } => None,
+        Form::Goto(_) => None,
+        Form::If { .. } => None,
+        Form::IfByte { .. } => None,
+        Form::Call { .. } => None,
+        Form::Return(_) => None,
+    }
+}
+
+/// What a statement that isn't a call asks of the sets and the sets lack.
+pub(crate) fn missing_plain(s: &Scope, sets: &[List<i32>], form: &Form) -> Option<Missing>
+    ensures { MatchOption result (MaybeHolds (setting s.entry.now) sets.now (plain_rule_of (setting s.entry.now) form.now)) (λ m. Lacks sets.now (λ R. MaybeHolds (setting s.entry.now) R (plain_rule_of (setting s.entry.now) form.now)) m.to m.code) }
+{
+    missing_by(s, sets, plain_rule(s, form))
+}
+
+// ---- the codes at entry
+
+/// A code that one of some sets, from a place on, lacks.
+pub(crate) fn missing_unknown(sets: &[List<i32>], first: u128, count: usize) -> Option<Missing>
+    requires { first + count < 2 ^ 128 }
+    ensures { MatchOption result (AreUnknown sets.now first count) (λ m. Lacks sets.now (λ R. AreUnknown R first count) m.to m.code) }
+{
+    for number in 0..count {
+        match missing_code(sets, first + number as u128, -1) {
+            None => {}
+            Some(missing) => return Some(missing),
+        }
+    }
+    None
+}
+
+fn missing_entity(sets: &[List<i32>], to: u128, code: u32) -> Option<Missing>
+    ensures { MatchOption result (HasCode sets.now to (pos code)) (λ m. Lacks sets.now (λ R. HasCode R to (pos code)) m.to m.code) }
+{
+    missing_code(sets, to, i128::from(code))
+}
+
+/// What sets, from a place on, lack of the codes of as many entities.
+pub(crate) fn missing_coded(
+    sets: &[List<i32>],
+    first: u128,
+    codes: &[u32],
+    count: usize,
+) -> Option<Missing>
+    requires { first + count < 2 ^ 128 }
+    ensures { MatchOption result (AreCoded sets.now first codes.now count) (λ m. Lacks sets.now (λ R. AreCoded R first codes.now count) m.to m.code) }
+{
+    for number in 0..count {
+        match missing_entity(sets, first + number as u128, code_at(codes, Some(number))) {
+            None => {}
+            Some(missing) => return Some(missing),
+        }
+    }
+    None
+}
