@@ -142,10 +142,16 @@ receives P f gives.Int (Some x) = means_int (meant_in P f x)
 receives P f gives.Char (Some x) = means_number (meant_in P f x)
 receives P f gives.Ptr (Some x) = means_ptr (meant_in P f x)
 
--- the arguments that have a formal are of its kind
+-- an argument that has no formal: a variable, a number or null
+abbrev pub is_argument : Program → Proc → AnyOperand → Bool
+is_argument P f any.Null = true
+is_argument P f (any.Operand (operand.Number z)) = true
+is_argument P f (any.Operand (operand.Var x)) = means_number (meant_in P f x) || means_pointer (meant_in P f x)
+
+-- each argument that has a formal is of its kind
 abbrev pub takes_each : Program → Proc → List VarKind → List AnyOperand → Bool
-takes_each P f [] args = true
-takes_each P f (k ∷ ks) [] = true
+takes_each P f ks [] = true
+takes_each P f [] (a ∷ args) = is_argument P f a && takes_each P f [] args
 takes_each P f (k ∷ ks) (a ∷ args) = takes P f k a && takes_each P f ks args
 
 abbrev pub calls : Program → Proc → Option Name → List AnyOperand → Option BuiltIn → Option Proc → Bool

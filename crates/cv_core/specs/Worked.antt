@@ -224,9 +224,10 @@ pub record StatementsFail : Type 0 where
       ∷ form.Put (codes "v") any.Null ∷ form.Put (codes "w") (number 0) ∷ form.Diff (codes "x") (codes "p") (codes "w") ∷ form.If (var (codes "w")) rel.Eq any.Null 9
       ∷ form.If (var (codes "p")) rel.Lt (arg (codes "p")) 0 ∷ form.If (var (codes "p")) rel.Eq (number 0) 0 ∷ form.Return None ∷ form.Return (Some any.Null)
       ∷ form.Call (Some (codes "k")) (codes "f") (number 1 ∷ number 1 ∷ any.Null ∷ []) ∷ form.Call (Some (codes "x")) (codes "o") [] ∷ form.Call None (codes "f") (number 1 ∷ number 256 ∷ [])
-      ∷ form.Call None (codes "f") (number 1 ∷ arg (codes "x") ∷ []) ∷ form.Call None (codes "malloc") (any.Null ∷ number 1 ∷ []) ∷ []) ≡ many 25 3
+      ∷ form.Call None (codes "f") (number 1 ∷ arg (codes "x") ∷ []) ∷ form.Call None (codes "malloc") (any.Null ∷ number 1 ∷ [])
+      ∷ form.Call None (codes "f") (number 1 ∷ number 1 ∷ any.Null ∷ arg (codes "b") ∷ []) ∷ form.Call None (codes "getchar") (arg (codes "c") ∷ []) ∷ []) ≡ many 27 3
   pub counted : map (λ f. first_rule (with_statement f)) (
-      form.Call None (codes "f") [] ∷ form.Call None (codes "f") (number 1 ∷ number 1 ∷ any.Null ∷ arg (codes "b") ∷ []) ∷ form.Call None (codes "malloc") []
+      form.Call None (codes "f") [] ∷ form.Call None (codes "f") (number 1 ∷ number 1 ∷ any.Null ∷ arg (codes "w") ∷ []) ∷ form.Call None (codes "malloc") []
       ∷ form.Call None (codes "getchar") (number 1 ∷ []) ∷ form.Call None (codes "o") (number 1 ∷ []) ∷ []) ≡ many 5 4
   pub jumps : map (λ f. first_rule (with_statement f)) (form.Goto 2 ∷ form.If (num 1) rel.Eq (number 1) 2 ∷ form.IfByte (codes "p") false 2 ∷ []) ≡ many 3 5
   pub listed : map (λ f. first_rule (with_statement f)) (form.Address (codes "w") (codes "h") ∷ form.Address (codes "v") (codes "n") ∷ form.Call None (codes "o") [] ∷ []) ≡ many 3 7

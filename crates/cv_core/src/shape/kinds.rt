@@ -1,7 +1,7 @@
 //! The kinds that statements ask of what they name, and the number of arguments of a call.
-ghost use Rattle.std.specs.Prelude.{◌≡◌, ◌&&◌, length, map};
+ghost use Rattle.std.specs.Prelude.{◌≡◌, ◌&&◌, [], length, map};
 ghost use Rattle.std.specs.Option.{option_copied};
-ghost use Rattle.cv_core.specs.Kinds.{calls as calls_of, compares as compares_of, copies as copies_of, counts as counts_of, has_count as has_count_of, has_kinds as has_kinds_of, held_by as held_by_of, is_char_operand as char_operand, is_equality as equality, is_iptr_operand as iptr_operand, is_number_operand as number_operand, is_pptr_operand as pptr_operand, is_ptr_operand as ptr_operand, means_char as char_meant, means_int as int_meant, means_iptr as iptr_meant, means_number as number_meant, means_pointer as pointer_meant, means_pptr as pptr_meant, means_ptr as ptr_meant, points_to as points_to_of, puts as puts_of, receives as receives_of, returns_kind as returns_kind_of, same_pointers as same_pointers_of, takes as takes_of, takes_each as takes_each_of};
+ghost use Rattle.cv_core.specs.Kinds.{calls as calls_of, compares as compares_of, copies as copies_of, counts as counts_of, has_count as has_count_of, has_kinds as has_kinds_of, held_by as held_by_of, is_argument as argument, is_char_operand as char_operand, is_equality as equality, is_iptr_operand as iptr_operand, is_number_operand as number_operand, is_pptr_operand as pptr_operand, is_ptr_operand as ptr_operand, means_char as char_meant, means_int as int_meant, means_iptr as iptr_meant, means_number as number_meant, means_pointer as pointer_meant, means_pptr as pptr_meant, means_ptr as ptr_meant, points_to as points_to_of, puts as puts_of, receives as receives_of, returns_kind as returns_kind_of, same_pointers as same_pointers_of, takes as takes_of, takes_each as takes_each_of};
 ghost use Rattle.cv_core.specs.Meant.{built_in_kinds as kinds_of_built_in, kinds_of as kinds_of_formals, meant_in as meant_in_of};
 
 use crate::program::{AnyOperand, Form, Formal, Operand, Proc, Rel, ResultKind, VarKind};
@@ -231,17 +231,45 @@ fn receives(s: &Scope, answer: ResultKind, into: &Option<Bytes>) -> bool
     }
 }
 
-/// Whether the arguments that have a formal are of its kind.
+/// Whether an argument that has no formal is a variable, a number or null.
+fn is_argument(s: &Scope, e: &AnyOperand) -> bool
+    ensures { result ≡ argument s.entry.now.program.now s.entry.now.proc.now e.now }
+{
+    match e {
+        AnyOperand::Null => true,
+        AnyOperand::Operand(Operand::Number(_)) => true,
+        AnyOperand::Operand(Operand::Var(x)) => {
+            let meant = meant_in(s, x);
+            means_number(meant) || means_pointer(meant)
+        }
+    }
+}
+
+/// Whether arguments that have no formals are variables, numbers or null.
+fn are_arguments(s: &Scope, args: &[AnyOperand]) -> bool
+    ensures { result ≡ takes_each_of s.entry.now.program.now s.entry.now.proc.now [] args.now }
+{
+    match args {
+        [] => true,
+        [arg, args @ ..] => {
+            let here = is_argument(s, arg);
+            let later = are_arguments(s, args);
+            here && later
+        }
+    }
+}
+
+/// Whether each argument that has a formal is of its kind.
 fn formals_take(s: &Scope, formals: &[Formal], args: &[AnyOperand]) -> bool
     ensures { result ≡ takes_each_of s.entry.now.program.now s.entry.now.proc.now (map (λ x. x.kind) formals.now) args.now }
 {
-    match formals {
+    match args {
         [] => true,
-        [formal, formals @ ..] => match args {
-            [] => true,
-            [arg, args @ ..] => {
+        [arg, rest @ ..] => match formals {
+            [] => are_arguments(s, args),
+            [formal, formals @ ..] => {
                 let here = takes(s, formal.kind, arg);
-                let later = formals_take(s, formals, args);
+                let later = formals_take(s, formals, rest);
                 here && later
             }
         },
@@ -254,7 +282,11 @@ fn int_takes(s: &Scope, args: &[AnyOperand]) -> bool
 {
     match args {
         [] => true,
-        [arg, ..] => takes(s, VarKind::Int, arg),
+        [arg, args @ ..] => {
+            let here = takes(s, VarKind::Int, arg);
+            let later = are_arguments(s, args);
+            here && later
+        }
     }
 }
 
@@ -264,7 +296,7 @@ fn built_in_takes(s: &Scope, callee: BuiltIn, args: &[AnyOperand]) -> bool
 {
     match callee {
         BuiltIn::Malloc => int_takes(s, args),
-        BuiltIn::Getchar => true,
+        BuiltIn::Getchar => are_arguments(s, args),
         BuiltIn::Putchar => int_takes(s, args),
     }
 }
