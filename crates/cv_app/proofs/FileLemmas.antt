@@ -25,8 +25,7 @@ use Rattle.cv_app.specs.declared.fault.Fault.{Fault}
 use Rattle.cv_app.specs.declared.fault.Fault.TheVariants.{Usage, NotBuilt, Text, Nesting, Limit, Shape, FileLimit, CertificateLimit, Read, Memory}
 use Rattle.cv_app.specs.Commands.{Command, Check, Core, Unknown}
 use Rattle.cv_app.specs.Texts.{no_memory_text, not_built_text, file_limit_text}
-use Rattle.cv_app.specs.Check.{Gives, IsCName, Checks, FileTooLong, NotBuilt as UnbuiltFile, CertificateTooLong, Rejected, Accepted}
-use Rattle.cv_app.specs.Programs.{Found, by_shape, by_limit, found_by, BytesGive, CText, CoreText, FileGives, TooLong, Bytes}
+use Rattle.cv_app.specs.Programs.{IsCName, Gives, Found, by_shape, by_limit, found_by, BytesGive, CText, CoreText, FileGives, TooLong, Bytes}
 use Rattle.cv_app.specs.Core.{Cores, core_answer}
 use Rattle.cv_app.specs.Answers.{Answers, Refuses}
 use Rattle.cv_app.specs.Faults.{refusal_of, LoadRefused, UnlessHindered}
@@ -198,7 +197,8 @@ low_given : (file bytes : List ℕ) (found : Found) → BytesGive file bytes fou
 low_given file bytes found (CText c e) h = let s : (core_answer (Err (refused 3 (not_built_text file 1)))).status ≡ 2 = sym (ap (λ (f : Found). (core_answer f).status) e) ∙ h in omega (arith, s)
 low_given file bytes found (CoreText n r k e) h = low_reading file r (sym (ap (λ (f : Found). (core_answer f).status) e) ∙ h)
 
-low_found : (files : Files) (file : List ℕ) (found : Found) → FileGives files file found → (core_answer found).status ≢ 2
+-- a file that is refused has no usage line
+pub low_found : (files : Files) (file : List ℕ) (found : Found) → FileGives files file found → (core_answer found).status ≢ 2
 low_found files file found (TooLong more e) h = let s : (core_answer (Err (refused 4 file_limit_text))).status ≡ 2 = sym (ap (λ (f : Found). (core_answer f).status) e) ∙ h in omega (arith, s)
 low_found files file found (Bytes bytes g k) h = low_given file bytes found k h
 
@@ -393,82 +393,6 @@ one_given : (name bytes : List ℕ) (found : Found) → BytesGive name bytes fou
 one_given name bytes found (CText c e) = subst (IsGiven name bytes) (sym e) (given_c name bytes c)
 one_given name bytes found (CoreText n r h e) = given_core name bytes found r n (one_reading bytes r h) e
 
-one_found : (files : Files) (name : List ℕ) (found : Found) → FileGives files name found → IsFound files name found
+pub one_found : (files : Files) (name : List ℕ) (found : Found) → FileGives files name found → IsFound files name found
 one_found files name found (TooLong more e) = subst (IsFound files name) (sym e) (found_long files name more)
 one_found files name found (Bytes bytes there h) = found_bytes files name bytes found there (one_given name bytes found h)
-
--- ---- a command has one answer
-
-one_core : (files : Files) (file : List ℕ) (answer other : Served) → Cores files file answer → Cores files file other → other ≡ answer
-one_core files file answer other c d =
-    let only = (core_found files file c.found (one_found files file c.found c.gives)).only in
-    only other d ∙ sym c.is
-
-other_status : (answer other : Served) (m n : ℕ) → answer.status ≡ m → other.status ≡ n → answer.status ≡ other.status → (m ≡ n → ⊥) → ⊥
-other_status answer other m n e f same differ = differ (sym e ∙ same ∙ f)
-
--- its answers of one status are the same
-one_check : (files : Files) (file cert : List ℕ) (answer other : Served) → Checks files file cert answer → Checks files file cert other → answer.status ≡ other.status → other ≡ answer
-one_check files file cert answer other (FileTooLong m1 e1) (FileTooLong m2 e2) same = e2 ∙ sym e1
-one_check files file cert answer other (FileTooLong m1 e1) (UnbuiltFile b2 g2 n2 e2) same = absurd (other_status answer other 4 3 (ap (λ (s : Served). s.status) e1) (ap (λ (s : Served). s.status) e2) same (λ h. absurd cc))
-one_check files file cert answer other (FileTooLong m1 e1) (CertificateTooLong p2 s2 m2 e2) same = absurd (too_long_given files file 1048576 s2.bytes m1 s2.given)
-one_check files file cert answer other (FileTooLong m1 e1) (Rejected p2 t2 s2 g2 v2 e2) same = absurd (other_status answer other 4 1 (ap (λ (s : Served). s.status) e1) (ap (λ (s : Served). s.status) e2) same (λ h. absurd cc))
-one_check files file cert answer other (FileTooLong m1 e1) (Accepted p2 t2 s2 g2 v2 e2) same = absurd (other_status answer other 4 0 (ap (λ (s : Served). s.status) e1) (ap (λ (s : Served). s.status) e2) same (λ h. absurd cc))
-one_check files file cert answer other (UnbuiltFile b1 g1 n1 e1) (FileTooLong m2 e2) same = absurd (other_status answer other 3 4 (ap (λ (s : Served). s.status) e1) (ap (λ (s : Served). s.status) e2) same (λ h. absurd cc))
-one_check files file cert answer other (UnbuiltFile b1 g1 n1 e1) (UnbuiltFile b2 g2 n2 e2) same = e2 ∙ sym e1
-one_check files file cert answer other (UnbuiltFile b1 g1 n1 e1) (CertificateTooLong p2 s2 m2 e2) same = absurd (other_status answer other 3 4 (ap (λ (s : Served). s.status) e1) (ap (λ (s : Served). s.status) e2) same (λ h. absurd cc))
-one_check files file cert answer other (UnbuiltFile b1 g1 n1 e1) (Rejected p2 t2 s2 g2 v2 e2) same = absurd (other_status answer other 3 1 (ap (λ (s : Served). s.status) e1) (ap (λ (s : Served). s.status) e2) same (λ h. absurd cc))
-one_check files file cert answer other (UnbuiltFile b1 g1 n1 e1) (Accepted p2 t2 s2 g2 v2 e2) same = absurd (other_status answer other 3 0 (ap (λ (s : Served). s.status) e1) (ap (λ (s : Served). s.status) e2) same (λ h. absurd cc))
-one_check files file cert answer other (CertificateTooLong p1 s1 m1 e1) (FileTooLong m2 e2) same = absurd (too_long_given files file 1048576 s1.bytes m2 s1.given)
-one_check files file cert answer other (CertificateTooLong p1 s1 m1 e1) (UnbuiltFile b2 g2 n2 e2) same = absurd (other_status answer other 4 3 (ap (λ (s : Served). s.status) e1) (ap (λ (s : Served). s.status) e2) same (λ h. absurd cc))
-one_check files file cert answer other (CertificateTooLong p1 s1 m1 e1) (CertificateTooLong p2 s2 m2 e2) same = e2 ∙ sym e1
-one_check files file cert answer other (CertificateTooLong p1 s1 m1 e1) (Rejected p2 t2 s2 g2 v2 e2) same = absurd (other_status answer other 4 1 (ap (λ (s : Served). s.status) e1) (ap (λ (s : Served). s.status) e2) same (λ h. absurd cc))
-one_check files file cert answer other (CertificateTooLong p1 s1 m1 e1) (Accepted p2 t2 s2 g2 v2 e2) same = absurd (other_status answer other 4 0 (ap (λ (s : Served). s.status) e1) (ap (λ (s : Served). s.status) e2) same (λ h. absurd cc))
-one_check files file cert answer other (Rejected p1 t1 s1 g1 v1 e1) (FileTooLong m2 e2) same = absurd (other_status answer other 1 4 (ap (λ (s : Served). s.status) e1) (ap (λ (s : Served). s.status) e2) same (λ h. absurd cc))
-one_check files file cert answer other (Rejected p1 t1 s1 g1 v1 e1) (UnbuiltFile b2 g2 n2 e2) same = absurd (other_status answer other 1 3 (ap (λ (s : Served). s.status) e1) (ap (λ (s : Served). s.status) e2) same (λ h. absurd cc))
-one_check files file cert answer other (Rejected p1 t1 s1 g1 v1 e1) (CertificateTooLong p2 s2 m2 e2) same = absurd (other_status answer other 1 4 (ap (λ (s : Served). s.status) e1) (ap (λ (s : Served). s.status) e2) same (λ h. absurd cc))
-one_check files file cert answer other (Rejected p1 t1 s1 g1 v1 e1) (Rejected p2 t2 s2 g2 v2 e2) same = e2 ∙ sym e1
-one_check files file cert answer other (Rejected p1 t1 s1 g1 v1 e1) (Accepted p2 t2 s2 g2 v2 e2) same = absurd (other_status answer other 1 0 (ap (λ (s : Served). s.status) e1) (ap (λ (s : Served). s.status) e2) same (λ h. absurd cc))
-one_check files file cert answer other (Accepted p1 t1 s1 g1 v1 e1) (FileTooLong m2 e2) same = absurd (other_status answer other 0 4 (ap (λ (s : Served). s.status) e1) (ap (λ (s : Served). s.status) e2) same (λ h. absurd cc))
-one_check files file cert answer other (Accepted p1 t1 s1 g1 v1 e1) (UnbuiltFile b2 g2 n2 e2) same = absurd (other_status answer other 0 3 (ap (λ (s : Served). s.status) e1) (ap (λ (s : Served). s.status) e2) same (λ h. absurd cc))
-one_check files file cert answer other (Accepted p1 t1 s1 g1 v1 e1) (CertificateTooLong p2 s2 m2 e2) same = absurd (other_status answer other 0 4 (ap (λ (s : Served). s.status) e1) (ap (λ (s : Served). s.status) e2) same (λ h. absurd cc))
-one_check files file cert answer other (Accepted p1 t1 s1 g1 v1 e1) (Rejected p2 t2 s2 g2 v2 e2) same = absurd (other_status answer other 0 1 (ap (λ (s : Served). s.status) e1) (ap (λ (s : Served). s.status) e2) same (λ h. absurd cc))
-one_check files file cert answer other (Accepted p1 t1 s1 g1 v1 e1) (Accepted p2 t2 s2 g2 v2 e2) same = e2 ∙ sym e1
-
-one_answer : (files : Files) (command : Command) (answer other : Served) → Answers (Some files) command answer → Answers (Some files) command other → answer.status ≡ other.status → other ≡ answer
-one_answer files (Check file cert) answer other h k same = one_check files file cert answer other h k same
-one_answer files (Core file) answer other h k same = one_core files file answer other h k
-one_answer files Unknown answer other h k same = k ∙ sym h
-
-abbrev served_of : ℕ → List ℕ → List ℕ → Served
-served_of status out errs = record { status = status; out = out; errs = errs }
-
--- what was served is the answer that was given
-given_served : (files : Files) (command : Command) (served answer : Served) → Answers (Some files) command answer → served.status ≡ answer.status →
-    Answered (Some files) command served.status (Some []) (Some served.out) (Some []) (Some served.errs) 0 0 → served ≡ answer
-given_served files command served answer h same given = same_served given.status_is given.printed given.refused ∙ one_answer files command answer given.answer h given.is (sym same ∙ given.status_is)
-  where
-    same_served : served.status ≡ given.answer.status → Appends (Some []) given.answer.out (Some served.out) → Writes (Some []) given.answer.errs (Some served.errs) 0 0 → served ≡ given.answer
-    same_served e o (inl w) =
-        let printed_same : served.out ≡ given.answer.out = cc in
-        let refused_same : served.errs ≡ given.answer.errs = cc in
-        ap (λ (n : ℕ). served_of n served.out served.errs) e ∙ ap (λ (text : List ℕ). served_of given.answer.status text served.errs) printed_same
-        ∙ ap (λ (text : List ℕ). served_of given.answer.status given.answer.out text) refused_same
-    same_served e o (inr cut) = absurd (grind arith)
-
-pub served_exactly : (told : Option Files) (command : Command) (served : Served) → served.status ≢ 6 →
-    (IsSettled served.status → Answered told command served.status (Some []) (Some served.out) (Some []) (Some served.errs) 0 0) →
-    IfSome told (λ files. (answer : Served) → Answers (Some files) command answer → Becomes answer served.status (Some []) (Some served.out)) →
-    IfSome told (λ files. (answer : Served) → Answers (Some files) command answer → (served ≡ answer) ⊎ ((served.status ≡ 5) ⊎ (served.status ≡ 7)))
-served_exactly None command served quiet answered exactly = search rules
-served_exactly (Some files) command served quiet answered exactly = λ answer h. by_fate answer h (exactly answer h) (nat_eq served.status 5) (nat_eq served.status 7) refl refl
-  where
-    by_fate : (answer : Served) → Answers (Some files) command answer → Becomes answer served.status (Some []) (Some served.out) → (five seven : Bool) → nat_eq served.status 5 ≡ five → nat_eq served.status 7 ≡ seven →
-        (served ≡ answer) ⊎ ((served.status ≡ 5) ⊎ (served.status ≡ 7))
-    by_fate answer h (sinks.ReadFault a s o) five seven e f = inr (inl s)
-    by_fate answer h (sinks.WriteFault a s o) five seven e f = absurd (quiet s)
-    by_fate answer h (sinks.NoMemory s o) five seven e f = inr (inr s)
-    by_fate answer h (sinks.Given s o) true seven e f = inr (inl (grind arith))
-    by_fate answer h (sinks.Given s o) false true e f = inr (inr (grind arith))
-    by_fate answer h (sinks.Given s o) false false e f =
-        inl (given_served files command served answer h s (answered (record { no_read_fault = λ five. absurd (grind arith); no_write_fault = quiet; memory = λ seven. absurd (grind arith) })))

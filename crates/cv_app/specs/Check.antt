@@ -1,47 +1,28 @@
 -- What `check FILE CERT` answers, where no device fails and memory suffices.
-use Rattle.std.specs.Prelude.{◌≡◌, ℕ, ◌≤◌, List, length, Some, ◌⊎◌, codes, IsTrue, nat_eq}
-use Rattle.std.specs.List.{ends_with}
+use Rattle.std.specs.Prelude.{◌≡◌, ℕ, List, Some, ◌⊎◌, Ok, Err}
 use Rattle.cv_core.specs.declared.program.Program.{Program}
 use Rattle.cv_text.specs.Whole.{Spells}
 use Rattle.cv_text.specs.Narrow.{IsNarrow}
 use Rattle.cv_check.specs.Accepted.{IsAccepted}
 use Rattle.cv_meaning.specs.Clean.{Clean}
-use Rattle.cv_io.specs.Counts.{Rose}
 use Rattle.cv_io.specs.Files.{Files, HoldsMore}
 use Rattle.cv_app.specs.declared.served.Served.{Served}
-use Rattle.cv_app.specs.Texts.{accepted_text, rejected_text, not_built_text, file_limit_text, certificate_limit_text, read_fault_text, write_fault_text, no_memory_text}
+use Rattle.cv_app.specs.Built.{unbuilt_line}
+use Rattle.cv_app.specs.Programs.{IsCName, Gives, FileGives}
+use Rattle.cv_app.specs.Core.{FileRefuses}
+use Rattle.cv_app.specs.Texts.{accepted_text, rejected_text, not_built_text, certificate_limit_text, read_fault_text, write_fault_text, no_memory_text}
 use Rattle.cv_app.specs.Served.{printed, refused}
 
--- the name of a file of C text
-abbrev pub IsCName : List ℕ → Type 0
-IsCName name = IsTrue (ends_with nat_eq name (codes ".c"))
-
--- the name is there, with these bytes, which are at most so many
-pub record Gives (files : Files) (name : List ℕ) (limit : ℕ) (bytes : List ℕ) : Type 0 where
-  pub there : files name ≡ Some bytes
-  pub within : length bytes ≤ limit
-
--- FILE is C text, or its bytes spell no straight-line program
-abbrev pub IsNotBuilt : List ℕ → List ℕ → Type 0
-IsNotBuilt name bytes = IsCName name ⊎ ((p : Program) → Spells bytes p → IsNarrow p → ⊥)
-
--- FILE is no C text, and its bytes spell this program, which is a straight-line one
-pub record IsBuilt (name bytes : List ℕ) (p : Program) : Type 0 where
-  pub core : IsCName name → ⊥
-  pub spelled : Spells bytes p
-  pub narrow : IsNarrow p
-
--- FILE is given and stands for this program
+-- FILE stands for this program, which is a straight-line one
 pub record StandsFor (files : Files) (name : List ℕ) (p : Program) : Type 0 where
-  pub bytes : List ℕ
-  pub given : Gives files name 1048576 bytes
-  pub built : IsBuilt name bytes p
+  pub given : FileGives files name (Ok p)
+  pub narrow : IsNarrow p
 
 -- In the order in which they are tested:
 pub data Checks (files : Files) (file cert : List ℕ) (answer : Served) : Type 0 where
-  FileTooLong : HoldsMore (Some files) file 1048576 → answer ≡ refused 4 file_limit_text → Checks files file cert answer
-  NotBuilt : (bytes : List ℕ) → Gives files file 1048576 bytes → IsNotBuilt file bytes →
-      answer ≡ refused 3 (not_built_text file 1) → Checks files file cert answer
+  Refused : FileGives files file (Err answer) → Checks files file cert answer
+  NotBuilt : (p : Program) (line : ℕ) → FileGives files file (Ok p) → unbuilt_line p ≡ Some line →
+      answer ≡ refused 3 (not_built_text file line) → Checks files file cert answer
   CertificateTooLong : (p : Program) → StandsFor files file p → HoldsMore (Some files) cert 268435456 →
       answer ≡ refused 4 certificate_limit_text → Checks files file cert answer
   Rejected : (p : Program) (text : List ℕ) → StandsFor files file p → Gives files cert 268435456 text →
@@ -55,8 +36,9 @@ CheckPrints status text = ((status ≡ 0) × (text ≡ accepted_text)) ⊎ ((sta
 
 -- the lines that it may put on standard error with a status
 abbrev pub CheckRefuses : List ℕ → ℕ → List ℕ → Type 0
-CheckRefuses file status text = ((status ≡ 3) × (text ≡ not_built_text file 1))
-    ⊎ ((status ≡ 4) × ((text ≡ file_limit_text) ⊎ (text ≡ certificate_limit_text)))
+CheckRefuses file status text = FileRefuses file status text
+    ⊎ ((status ≡ 3) × ((line : ℕ) × (text ≡ not_built_text file line)))
+    ⊎ ((status ≡ 4) × (text ≡ certificate_limit_text))
     ⊎ ((status ≡ 5) × (text ≡ read_fault_text))
     ⊎ ((status ≡ 6) × (text ≡ write_fault_text))
     ⊎ ((status ≡ 7) × (text ≡ no_memory_text))

@@ -2,8 +2,7 @@
 use Rattle.std.specs.Prelude.{◌≡◌, ℕ, ◌⊎◌, List, Bool, true, false, Option, Result, Ok, Err}
 use Rattle.cv_io.specs.Counts.{Rose}
 use Rattle.cv_io.specs.Files.{Files, HoldsMore}
-use Rattle.cv_app.specs.Check.{Checks, StandsFor}
-use Rattle.cv_core.specs.declared.program.Program.{Program}
+use Rattle.cv_app.specs.Check.{Checks}
 use Rattle.cv_app.specs.declared.fault.Fault.{Fault}
 use Rattle.cv_app.specs.declared.fault.Fault.TheVariants.{Usage, NotBuilt, Text, Nesting, Limit, Shape, FileLimit, CertificateLimit, Read, Memory}
 use Rattle.cv_app.specs.declared.served.Served.{Served}
@@ -42,11 +41,6 @@ Decides files file cert decision = Checks files file cert (answer_of file decisi
 -- the refusals of `check`
 abbrev pub IsCheckFault : Fault → Type 0
 IsCheckFault Usage = ⊥
-IsCheckFault (NotBuilt number) = number ≡ 1
-IsCheckFault (Text number) = ⊥
-IsCheckFault Nesting = ⊥
-IsCheckFault (Limit which) = ⊥
-IsCheckFault (Shape e) = ⊥
 IsCheckFault fault = Unit {0}
 
 -- a fact, but for faults of reading and want of memory
@@ -54,7 +48,3 @@ abbrev pub UnlessHindered : {X : Type 0} → Result X Fault → Type 0 → Type 
 UnlessHindered (Err Read) P = Unit {0}
 UnlessHindered (Err Memory) P = Unit {0}
 UnlessHindered decision P = P
-
--- FILE stands for one program at most
-abbrev pub HasOneProgram : Files → List ℕ → Type 0
-HasOneProgram files name = (p q : Program) → StandsFor files name p → StandsFor files name q → p ≡ q

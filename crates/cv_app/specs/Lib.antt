@@ -1,6 +1,7 @@
 pub mod Commands
 pub mod Texts
 pub mod Served
+pub mod Built
 pub mod Check
 pub mod Programs
 pub mod Core

@@ -1,5 +1,6 @@
 -- Which program a file stands for, or the line with which it is refused.
-use Rattle.std.specs.Prelude.{◌≡◌, ℕ, List, Option, Some, None, Result, Ok, Err}
+use Rattle.std.specs.Prelude.{◌≡◌, ℕ, ◌≤◌, List, length, codes, Option, Some, None, Result, Ok, Err, IsTrue, nat_eq}
+use Rattle.std.specs.List.{ends_with}
 use Rattle.cv_core.specs.declared.faults.LimitName.{LimitName}
 use Rattle.cv_core.specs.declared.faults.ShapeFault.{ShapeFault}
 use Rattle.cv_core.specs.declared.program.Program.{Program}
@@ -8,9 +9,17 @@ use Rattle.cv_core.specs.Shape.{first_fault}
 use Rattle.cv_text.specs.Readings.{Unread, Faulty, Nested, IsReading}
 use Rattle.cv_io.specs.Files.{Files, HoldsMore}
 use Rattle.cv_app.specs.declared.served.Served.{Served}
-use Rattle.cv_app.specs.Check.{IsCName, Gives}
 use Rattle.cv_app.specs.Served.{refused}
 use Rattle.cv_app.specs.Texts.{not_built_text, text_fault_text, shape_fault_text, limit_text, nesting_limit_text, file_limit_text}
+
+-- the name of a file of C text
+abbrev pub IsCName : List ℕ → Type 0
+IsCName name = IsTrue (ends_with nat_eq name (codes ".c"))
+
+-- the name is there, with these bytes, which are at most so many
+pub record Gives (files : Files) (name : List ℕ) (limit : ℕ) (bytes : List ℕ) : Type 0 where
+  pub there : files name ≡ Some bytes
+  pub within : length bytes ≤ limit
 
 -- a program, or the line that refuses the file
 abbrev pub Found : Type 0

@@ -1,25 +1,21 @@
 //! The command `check FILE CERT`.
-ghost use Rattle.std.specs.Prelude.{◌≡◌, ◌≢◌, ◌≤◌, ◌⊎◌, length, IfOk, IfErr, IfSome, Some, Ok, Err, true, IsTrue, codes, nat_eq, ◌↔◌};
-ghost use Rattle.std.specs.List.{ends_with};
-ghost use Rattle.cv_core.specs.declared.program.Program.{Program as Tree};
-ghost use Rattle.cv_text.specs.Whole.{Spells};
-ghost use Rattle.cv_text.specs.Narrow.{IsNarrow};
-ghost use Rattle.cv_io.specs.Counts.{Rose, NoneFell, NoneRose};
-ghost use Rattle.cv_io.specs.Files.{Files};
+ghost use Rattle.std.specs.Prelude.{◌≡◌, ◌≢◌, ◌≤◌, ◌⊎◌, length, IfOk, IfErr, IfSome, Some, Ok, Err, true};
+ghost use Rattle.cv_io.specs.Counts.{Rose, NoneRose};
 ghost use Rattle.cv_app.specs.declared.served.Served.{Served as Answer};
 ghost use Rattle.cv_app.specs.Answers.{Answers, LoadFailed};
 ghost use Rattle.cv_app.specs.Commands.{Check};
 ghost use Rattle.cv_app.specs.Sinks.{IsSettled, Answered, Becomes, PrintsBy, RefusesBy};
-ghost use Rattle.cv_app.specs.Check.{Gives, IsBuilt, IsNotBuilt, HasCleanProgram};
-ghost use Rattle.cv_app.specs.Faults.{LoadRefused, Decides, IsCheckFault, UnlessHindered, HasOneProgram};
+ghost use Rattle.cv_app.specs.Check.{HasCleanProgram};
+ghost use Rattle.cv_app.specs.Programs.{Gives};
+ghost use Rattle.cv_app.specs.Faults.{LoadRefused, Decides, IsCheckFault};
 
 use crate::answer::print;
 use crate::fault::{Fault, report};
+use crate::program::program_of_file;
+use crate::unbuilt::built;
 use cv_check::check_narrow;
-use cv_core::Program;
 use cv_io::{Sink, Store, StoreError};
-use cv_text::read_narrow;
-use std::alloc::{AllocError, Global};
+use std::alloc::Global;
 
 pub(crate) const FILE_LIMIT: u64 = 1048576;
 
@@ -48,22 +44,9 @@ pub(crate) fn load<S: Store>(
     }
 }
 
-/// The straight-line program of a file, None where it isn't built.
-fn program_of(alloc: Global, name: &[u8], bytes: &[u8]) -> Result<Option<Program>, AllocError>
-    ensures some { IfOk result (λ read. IfSome read (IsBuilt name.now bytes.now)) }
-    ensures exact { IfOk result (λ read. (p : Tree) → IsBuilt name.now bytes.now p → read ≡ Some p) }
-    ensures none { result ≡ Ok None → IsNotBuilt name.now bytes.now }
-{
-    if name.ends_with(b".c") {
-        return Ok(None);
-    }
-    read_narrow(alloc, bytes)
-}
-
 /// Decides what `check` answers, before anything is written.
 fn decide<S: Store>(alloc: Global, store: &mut S, file: &[u8], cert: &[u8]) -> Result<bool, Fault>
     ensures checks { IfSome (S.content store.old) (λ files. Decides files file.now cert.now result) }
-    ensures one { IfSome (S.content store.old) (λ files. UnlessHindered result (HasOneProgram files file.now)) }
     ensures clean { result ≡ Ok true → IfSome (S.content store.old) (λ files. HasCleanProgram files file.now) }
     ensures faults { IfErr result IsCheckFault }
     ensures read_fault { result ≡ Err Fault.Read →
@@ -71,10 +54,10 @@ fn decide<S: Store>(alloc: Global, store: &mut S, file: &[u8], cert: &[u8]) -> R
         ⊎ Rose (S.reading_faults store.old cert.now) (S.reading_faults store.new cert.now) }
     ensures unchanged { S.content store.new ≡ S.content store.old }
 {
-    let bytes = load(alloc, store, file, FILE_LIMIT, Fault::FileLimit)?;
-    let Some(program) = program_of(alloc, file, &bytes)? else {
-        return Err(Fault::NotBuilt { line: 1 });
-    };
+    let program = program_of_file(alloc, store, file)?;
+    if let Some(line) = built(&program) {
+        return Err(Fault::NotBuilt { line });
+    }
     let text = load(
         alloc,
         store,

@@ -13,7 +13,9 @@ mod request;
 mod served;
 #[cfg(test)]
 mod tests;
+mod unbuilt;
 
 pub use app::{cssv, serve_words};
 pub use fault::Fault;
 pub use served::Served;
+pub use unbuilt::built;

@@ -1,7 +1,7 @@
 //! Which program a file stands for.
 ghost use Rattle.std.specs.Prelude.{◌≡◌, ◌≢◌, ◌<◌, ◌^◌, ◌-◌, ℕ, List, length, IfErr, IfSome, Err};
 ghost use Rattle.cv_core.specs.Limits.{first_limit};
-ghost use Rattle.cv_io.specs.Counts.{Rose};
+ghost use Rattle.cv_io.specs.Counts.{Rose, NoneRose};
 ghost use Rattle.cv_app.specs.Faults.{UnlessHindered};
 ghost use Rattle.cv_app.specs.Programs.{by_limit};
 ghost use Rattle.cv_app.specs.Decided.{IsFileFault, IsTextFault, IsRead, IsGiven, IsFound, reading_of, outcome_of};
@@ -67,6 +67,7 @@ pub(crate) fn program_of_file<S: Store>(
     ensures faults { IfErr result IsFileFault }
     ensures read_fault { result ≡ Err Fault.Read → Rose (S.reading_faults store.old file.now) (S.reading_faults store.new file.now) }
     ensures unchanged { S.content store.new ≡ S.content store.old }
+    ensures quiet { result ≢ Err Fault.Read → NoneRose (S.reading_faults store.old) (S.reading_faults store.new) }
 {
     let bytes = load(alloc, store, file, FILE_LIMIT, Fault::FileLimit)?;
     program_of_bytes(alloc, file, &bytes)

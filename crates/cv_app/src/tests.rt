@@ -13,8 +13,6 @@ const CERT: &str =
 const USAGE: &str =
     "usage: cssv verify FILE CERT, check FILE CERT, run FILE STEPS ARG.., core FILE, report FILE, gen N\n";
 
-const NOT_BUILT: &str = "b.core:1: fault NotBuilt\n";
-
 /// What becomes of a text.
 #[derive(Clone, Copy)]
 enum Edit<'a> {
@@ -90,8 +88,6 @@ fn files_and_certificates_are_checked(rt: HostRuntime) -> Result<(), Fail> {
             "rejected\n",
             "",
         ),
-        (Edit::Line(8, "5: return p;"), Edit::Same, 3, "", NOT_BUILT),
-        (Edit::Whole(""), Edit::Same, 3, "", NOT_BUILT),
         (Edit::Same, Edit::Whole(""), 1, "rejected\n", ""),
         (Edit::Same, Edit::Less(1), 1, "rejected\n", ""),
         (Edit::Same, Edit::Less(4), 1, "rejected\n", ""),
@@ -137,6 +133,113 @@ fn files_and_certificates_are_checked(rt: HostRuntime) -> Result<(), Fail> {
     Ok(())
 }
 
+/// `check` refuses the edited file with this line, whether or not the certificate is there.
+fn all_refused(
+    rt: &impl Abort,
+    alloc: Global,
+    status: u8,
+    table: &[(Edit<'_>, &str)],
+) -> Result<(), AllocError> {
+    for (core, line) in table {
+        for cert in ["b.cert", "a.cert"] {
+            let words = words_of(alloc, &["check", "b.core", cert])?;
+            let core = edited(alloc, CORE, core)?;
+            let mut store = SteadyStore::new(alloc, files(alloc, core, Vec::new(alloc))?);
+            let served = serve_words(alloc, &words, &mut store, b"")?;
+            says(rt, &served, status, "", line);
+        }
+    }
+    Ok(())
+}
+
+#[test]
+fn parts_that_are_not_built_have_lines(rt: HostRuntime) -> Result<(), Fail> {
+    let table = [
+        (
+            Edit::Line(1, "global int g; 7: proc int main()"),
+            "b.core:1: fault NotBuilt\n",
+        ),
+        (
+            Edit::Line(1, "literal s { }; 7: proc int main()"),
+            "b.core:1: fault NotBuilt\n",
+        ),
+        (
+            Edit::Line(1, "6: proc int f() { 8: return 0; } 7: proc int main()"),
+            "b.core:6: fault NotBuilt\n",
+        ),
+        (
+            Edit::Line(1, "7: proc int main(int n)"),
+            "b.core:7: fault NotBuilt\n",
+        ),
+        (
+            Edit::Line(1, "7: proc int main() requires 0 <= 1;"),
+            "b.core:7: fault NotBuilt\n",
+        ),
+        (
+            Edit::More("9: proc int f() { 8: return 0; }"),
+            "b.core:9: fault NotBuilt\n",
+        ),
+    ];
+    all_refused(&rt, rt.alloc(), 3, &table)?;
+    Ok(())
+}
+
+#[test]
+fn locals_and_statements_that_are_not_built_have_lines(rt: HostRuntime) -> Result<(), Fail> {
+    let table = [
+        (Edit::Line(4, "ptr p; int x;"), "b.core:1: fault NotBuilt\n"),
+        (
+            Edit::Line(3, "buf b 4; buf c 4;"),
+            "b.core:1: fault NotBuilt\n",
+        ),
+        (Edit::Line(5, "2: p = null;"), "b.core:2: fault NotBuilt\n"),
+        (Edit::Line(6, "3: goto 0;"), "b.core:3: fault NotBuilt\n"),
+        (Edit::Line(7, "4: return 0;"), "b.core:4: fault NotBuilt\n"),
+        (Edit::Line(8, "5: goto 0;"), "b.core:5: fault NotBuilt\n"),
+        (
+            Edit::Line(5, "2: p = null; 3: p = null;"),
+            "b.core:2: fault NotBuilt\n",
+        ),
+    ];
+    all_refused(&rt, rt.alloc(), 3, &table)?;
+    Ok(())
+}
+
+#[test]
+fn faults_come_before_what_is_not_built(rt: HostRuntime) -> Result<(), Fail> {
+    let table = [
+        (Edit::Whole(""), "b.core:1: fault NoMain\n"),
+        (Edit::Line(7, "4: store p;"), "b.core:7: fault text\n"),
+        (
+            Edit::Line(5, "2: p = null; store"),
+            "b.core:5: fault text\n",
+        ),
+        (
+            Edit::Line(8, "5: return p;"),
+            "b.core:5: fault KindMismatch\n",
+        ),
+        (
+            Edit::Line(5, "2: p = null; 3: q = null;"),
+            "b.core:3: fault UnknownName\n",
+        ),
+        (Edit::Line(4, "ptr b;"), "b.core:1: fault DoubleName\n"),
+        (
+            Edit::Line(1, "global int g; 7: proc int nain()"),
+            "b.core:1: fault NoMain\n",
+        ),
+    ];
+    all_refused(&rt, rt.alloc(), 3, &table)?;
+    Ok(())
+}
+
+#[test]
+fn a_limit_comes_before_a_fault_of_shape(rt: HostRuntime) -> Result<(), Fail> {
+    let formals = "1: proc int main(int a, int a, int a, int a, int a, int a, int a, int a, int a)";
+    let table = [(Edit::Line(1, formals), "limit formals 8\n")];
+    all_refused(&rt, rt.alloc(), 4, &table)?;
+    Ok(())
+}
+
 /// A program of so many statements, and a certificate for it.
 fn statements(alloc: Global, count: usize) -> Result<(Vec<u8>, Vec<u8>), AllocError> {
     let mut core = Vec::from_slice(alloc, b"1: proc int main()\n{\nptr p;\nbuf b 4;\n")?;
@@ -158,7 +261,10 @@ fn statements(alloc: Global, count: usize) -> Result<(Vec<u8>, Vec<u8>), AllocEr
 fn a_hundred_statements_are_built(rt: HostRuntime) -> Result<(), Fail> {
     let alloc = rt.alloc();
     let words = words_of(alloc, &["check", "b.core", "b.cert"])?;
-    for (count, status, out, errs) in [(100, 0, "accepted\n", ""), (101, 3, "", NOT_BUILT)] {
+    for (count, status, out, errs) in [
+        (100, 0, "accepted\n", ""),
+        (101, 3, "", "b.core:3: fault NotBuilt\n"),
+    ] {
         let (core, cert) = statements(alloc, count)?;
         let mut store = SteadyStore::new(alloc, files(alloc, core, cert)?);
         let served = serve_words(alloc, &words, &mut store, b"")?;
@@ -203,7 +309,7 @@ fn a_long_file_is_refused(rt: HostRuntime) -> Result<(), Fail> {
     let words = words_of(alloc, &["check", "b.core", "b.cert"])?;
     for (length, status, errs) in [
         (1048577, 4, "limit file 1048576\n"),
-        (1048576, 3, NOT_BUILT),
+        (1048576, 3, "b.core:1: fault NoMain\n"),
     ] {
         let core = vec![in alloc; b' '; length]?;
         let mut store = SteadyStore::new(alloc, files(alloc, core, Vec::new(alloc))?);

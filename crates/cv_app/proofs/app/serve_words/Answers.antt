@@ -3,7 +3,7 @@ use Rattle.cv_app.specs.declared.served.Served.{Served}
 use Rattle.cv_app.specs.Answers.{Answers}
 use Rattle.cv_app.specs.Commands.{command_of, words_of}
 use Rattle.cv_app.specs.Sinks.{IsSettled, Answered, Becomes}
-use Rattle.cv_app.proofs.FileLemmas.{served_exactly}
+use Rattle.cv_app.proofs.ServedLemmas.{served_exactly}
 use Rattle.cv_app.proofs.app.serve_words.Goals as goal
 
 pub returns-clause-exactly : goal.returns-clause-exactly
