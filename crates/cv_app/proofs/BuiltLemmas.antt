@@ -1,10 +1,10 @@
 -- What the first part that isn't built says of a program.
-use Rattle.std.proofs.Common.{◌≡◌, ◌↔◌, ℕ, suc, ◌+◌, ◌-◌, ◌<◌, ◌≤◌, ◌⊎◌, Bool, true, false, not, ◌&&◌, ◌==◌, ltb, List, [], ◌∷◌, ◌++◌, length, map, take, drop, slice_index_or, Option, None, Some, codes, refl, sym, ◌∙◌, ap, arith, subst, inl, inr}
+use Rattle.std.proofs.Common.{◌≡◌, ℕ, suc, ◌+◌, ◌-◌, ◌<◌, ◌≤◌, ◌⊎◌, Bool, true, false, not, ◌==◌, List, [], ◌∷◌, ◌++◌, length, map, take, drop, slice_index_or, Option, None, Some, codes, refl, sym, ◌∙◌, ap, arith, subst, inl, inr}
 use Rattle.std.proofs.lemmas.Bool.{lt-ltb, ltb-true, eqb-true, ne_eqb, and_from, and_parts, not-true, not_from_false, false_from_ne_true}
 use Rattle.std.proofs.lemmas.Slice.Eq.{bytes_eq-Decides}
 use Rattle.std.proofs.Math.Seq.{take-length}
 use Rattle.std.specs.Str.{bytes_eq}
-use Rattle.cv_core.specs.Headings.{gives_int, is_main}
+use Rattle.cv_core.specs.Headings.{gives_int}
 use Rattle.cv_core.specs.Names.{Name}
 use Rattle.cv_core.specs.Shape.{is_last}
 use Rattle.cv_core.specs.declared.program.Program.{Program}

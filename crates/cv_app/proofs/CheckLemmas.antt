@@ -1,12 +1,12 @@
 -- The answers of `check`.
-use Rattle.std.proofs.Common.{◌≡◌, ◌≢◌, ℕ, ◌+◌, ◌<◌, ◌≤◌, ◌⊎◌, List, [], length, Bool, true, false, Option, None, Some, Result, Ok, Err, IfSome, refl, sym, ◌∙◌, ap, rules, arith, subst, inl, inr}
+use Rattle.std.proofs.Common.{◌≡◌, ◌≢◌, ℕ, ◌≤◌, ◌⊎◌, List, [], Bool, true, false, Option, None, Some, Result, Ok, Err, IfSome, refl, sym, ◌∙◌, ap, rules, arith, subst, inl, inr}
 use Rattle.cv_core.specs.declared.program.Program.{Program}
 use Rattle.cv_check.specs.Accepted.{IsAccepted}
-use Rattle.cv_io.specs.Files.{Files, HoldsMore}
+use Rattle.cv_io.specs.Files.{Files}
 use Rattle.cv_app.specs.declared.served.Served.{Served}
 use Rattle.cv_app.specs.declared.fault.Fault.{Fault}
 use Rattle.cv_app.specs.declared.fault.Fault.TheVariants.{Usage, NotBuilt, Text, Nesting, Limit, Shape, FileLimit, CertificateLimit, Read, Memory}
-use Rattle.cv_app.specs.Commands.{Command, Check}
+use Rattle.cv_app.specs.Commands.{Check}
 use Rattle.cv_app.specs.Texts.{no_memory_text, not_built_text}
 use Rattle.cv_app.specs.Built.{unbuilt_line}
 use Rattle.cv_app.specs.Served.{refused}

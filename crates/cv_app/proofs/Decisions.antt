@@ -1,5 +1,5 @@
 -- What a decision of `check` says.
-use Rattle.std.proofs.Common.{◌≡◌, ℕ, ◌<◌, ◌≤◌, ◌⊎◌, ◌↔◌, List, length, Bool, true, false, IsTrue, Option, None, Some, Result, Ok, Err, IfSome, refl, sym, ◌∙◌, rules, arith, subst}
+use Rattle.std.proofs.Common.{◌≡◌, ℕ, ◌<◌, ◌↔◌, List, length, Bool, true, false, IsTrue, Option, None, Some, Result, Ok, Err, IfSome, refl, sym, ◌∙◌, rules, arith, subst}
 use Rattle.cv_core.specs.declared.program.Program.{Program}
 use Rattle.cv_core.specs.declared.faults.LimitName.{LimitName}
 use Rattle.cv_core.specs.declared.faults.ShapeFault.{ShapeFault}
@@ -12,13 +12,13 @@ use Rattle.cv_check.specs.Accepted.{IsAccepted}
 use Rattle.cv_meaning.specs.Clean.{Clean}
 use Rattle.cv_io.specs.Files.{Files, HoldsMore}
 use Rattle.cv_app.specs.declared.fault.Fault.{Fault}
-use Rattle.cv_app.specs.declared.fault.Fault.TheVariants.{Usage, NotBuilt, Text, Nesting, Limit, Shape, FileLimit, CertificateLimit, Read, Memory}
+use Rattle.cv_app.specs.declared.fault.Fault.TheVariants.{Usage, NotBuilt, CertificateLimit, Read, Memory}
 use Rattle.cv_app.specs.Built.{unbuilt_line}
 use Rattle.cv_app.specs.Programs.{Found, by_shape, by_limit, found_by, IsCName, Gives, BytesGive, CText, CoreText, FileGives, TooLong, Bytes}
-use Rattle.cv_app.specs.Check.{Checks, StandsFor, HasCleanProgram}
+use Rattle.cv_app.specs.Check.{HasCleanProgram}
 use Rattle.cv_app.specs.Check as check
-use Rattle.cv_app.specs.Faults.{Decides, LoadRefused, UnlessHindered, IsCheckFault}
-use Rattle.cv_app.specs.Decided.{IsFound, IsFileFault, outcome_of}
+use Rattle.cv_app.specs.Faults.{Decides, LoadRefused, UnlessHindered}
+use Rattle.cv_app.specs.Decided.{IsFound, outcome_of}
 
 -- a file that is refused
 pub unfound_decides : (told : Option Files) (file cert : List ℕ) (fault : Fault) →
@@ -28,11 +28,6 @@ unfound_decides None file cert fault found = search rules
 unfound_decides (Some files) file cert Read found = tt
 unfound_decides (Some files) file cert Memory found = tt
 unfound_decides (Some files) file cert fault found = check.Refused found.gives
-
--- each fault of a file is one of `check`
-pub file_fault : (fault : Fault) → IsFileFault fault → IsCheckFault fault
-file_fault Usage known = known
-file_fault fault known = tt
 
 -- a program that isn't built
 pub not_built_decides : (told : Option Files) (file cert : List ℕ) (p : Program) (line : ℕ) → IfSome told (λ files. IsFound files file (Ok p)) →

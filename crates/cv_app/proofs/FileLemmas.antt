@@ -1,5 +1,5 @@
 -- What is found of a file, and the answers of `core`.
-use Rattle.std.proofs.Common.{Bool, false, nat_eq, ◌≡◌, ◌≢◌, ℕ, ◌+◌, ◌<◌, ◌≤◌, ◌⊎◌, List, [], ◌∷◌, length, true, Vec, Option, None, Some, Result, Ok, Err, IfSome, refl, sym, ◌∙◌, ap, rules, arith, subst, inl, inr}
+use Rattle.std.proofs.Common.{◌≡◌, ◌≢◌, ℕ, ◌≤◌, ◌⊎◌, List, [], ◌∷◌, true, Vec, Option, None, Some, Result, Ok, Err, IfSome, refl, sym, ◌∙◌, ap, rules, arith, subst, inl, inr}
 use Rattle.cv_core.specs.declared.faults.LimitName.{LimitName}
 use Rattle.cv_core.specs.declared.faults.ShapeFault.{ShapeFault}
 use Rattle.cv_core.specs.declared.program.Program.{Program}
@@ -23,19 +23,18 @@ use Rattle.std.specs.declared.alloc.Global.{Global}
 use Rattle.cv_app.specs.declared.served.Served.{Served}
 use Rattle.cv_app.specs.declared.fault.Fault.{Fault}
 use Rattle.cv_app.specs.declared.fault.Fault.TheVariants.{Usage, NotBuilt, Text, Nesting, Limit, Shape, FileLimit, CertificateLimit, Read, Memory}
-use Rattle.cv_app.specs.Commands.{Command, Check, Core, Unknown}
+use Rattle.cv_app.specs.Commands.{Core}
 use Rattle.cv_app.specs.Texts.{no_memory_text, not_built_text, file_limit_text}
 use Rattle.cv_app.specs.Programs.{IsCName, Gives, Found, by_shape, by_limit, found_by, BytesGive, CText, CoreText, FileGives, TooLong, Bytes}
 use Rattle.cv_app.specs.Core.{Cores, core_answer}
 use Rattle.cv_app.specs.Answers.{Answers, Refuses}
 use Rattle.cv_app.specs.Faults.{refusal_of, LoadRefused, UnlessHindered}
-use Rattle.cv_app.specs.Decided.{outcome_of, reading_of, IsFileFault, IsTextFault, IsGiven, IsFound, core_outcome, IsCoreAnswer, IsRead}
+use Rattle.cv_app.specs.Decided.{outcome_of, reading_of, IsFileFault, IsTextFault, IsGiven, IsFound, IsCoreAnswer, IsRead}
 use Rattle.cv_app.specs.Served.{printed, refused}
-use Rattle.cv_app.specs.Sinks.{Reported, Printed, IsSettled, Answered, Becomes, Writes}
-use Rattle.cv_io.specs.Streams.{Appends}
+use Rattle.cv_app.specs.Sinks.{Reported, Printed, IsSettled, Answered, Becomes}
 use Rattle.cv_app.specs.Sinks as sinks
 use Rattle.cv_app.proofs.Decisions.{too_long_given}
-use Rattle.cv_app.proofs.Outcomes.{answered_printed, answered_reported, becomes_printed, becomes_reported, becomes_hindered}
+use Rattle.cv_app.proofs.Outcomes.{answered_reported, becomes_printed, becomes_reported, becomes_hindered}
 
 -- ---- texts
 

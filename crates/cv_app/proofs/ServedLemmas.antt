@@ -4,7 +4,7 @@ use Rattle.cv_io.specs.Files.{Files}
 use Rattle.cv_io.specs.Streams.{Appends}
 use Rattle.cv_app.specs.declared.served.Served.{Served}
 use Rattle.cv_app.specs.Commands.{Command, Check, Core, Unknown}
-use Rattle.cv_app.specs.Core.{Cores, core_answer}
+use Rattle.cv_app.specs.Core.{Cores}
 use Rattle.cv_app.specs.Answers.{Answers}
 use Rattle.cv_app.specs.Sinks.{IsSettled, Answered, Becomes, Writes}
 use Rattle.cv_app.specs.Sinks as sinks
