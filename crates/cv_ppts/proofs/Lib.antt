@@ -14,3 +14,5 @@ pub mod Called
 pub mod Overs
 pub mod Formals
 pub mod Closing
+pub mod Inserted
+pub mod Grown

@@ -13,3 +13,4 @@ pub mod Targets
 pub mod Keys
 pub mod Picked
 pub mod Lacking
+pub mod Growing

@@ -72,7 +72,7 @@ fn missing_of_cells(s: &Scope, sets: &[List<i32>]) -> Option<Missing>
 }
 
 /// What the codes at entry ask for.
-fn missing_at_entry(s: &Scope, sets: &[List<i32>]) -> Option<Missing>
+pub(crate) fn missing_at_entry(s: &Scope, sets: &[List<i32>]) -> Option<Missing>
     ensures { MatchOption result (HasEntryCodes (setting s.entry.now) sets.now) (λ m. Lacks sets.now (λ R. HasEntryCodes (setting s.entry.now) R) m.to m.code) }
 {
     match missing_of_formals(s, sets) {
@@ -165,7 +165,7 @@ fn statement_at(f: &Proc, statement: usize) -> Option<&Stmt>
 }
 
 /// What the statement of a number asks for.
-fn missing_at(s: &Scope, sets: &[List<i32>], statement: usize) -> Option<Missing>
+pub(crate) fn missing_at(s: &Scope, sets: &[List<i32>], statement: usize) -> Option<Missing>
     requires { statement ≤ length (stmts_in s.now.f.now.body) }
     ensures { MatchOption result (HoldsAt (setting s.entry.now) sets.now statement) (λ m. Lacks sets.now (λ R. HoldsAt (setting s.entry.now) R statement) m.to m.code) }
 {

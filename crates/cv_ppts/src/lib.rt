@@ -7,6 +7,8 @@ mod calls;
 mod closed;
 mod codes;
 mod entities;
+mod fixpoint;
+mod growth;
 mod listing;
 mod named;
 mod outcomes;
@@ -19,6 +21,7 @@ mod sets;
 pub use closed::targets_closed;
 pub use codes::{Case, CaseError, Targets};
 pub use entities::Class;
+pub use fixpoint::targets;
 pub use listing::cases;
 
 #[cfg(test)]
