@@ -16,3 +16,5 @@ pub mod Formals
 pub mod Closing
 pub mod Inserted
 pub mod Grown
+pub mod Planning
+pub mod Losing

@@ -14,3 +14,5 @@ pub mod Keys
 pub mod Picked
 pub mod Lacking
 pub mod Growing
+pub mod Planned
+pub mod Lost

@@ -3,6 +3,7 @@ ghost use Rattle.std.specs.Prelude.{◌≡◌, IfOk, IfSome, length, ℕ};
 ghost use Rattle.cv_ppts.specs.Growing.{IsSaturated, IsTable};
 ghost use Rattle.cv_ppts.specs.Keys.{setting};
 ghost use Rattle.cv_ppts.specs.Plain.{IsWithin, Sets, codes_at};
+ghost use Rattle.cv_ppts.specs.Planned.{IsPlan};
 ghost use Rattle.cv_ppts.specs.Setting.{set_count as set_count_of};
 ghost use Rattle.cv_ppts.specs.Targets.{AreClosedFor, AreLeast, AreLeastFor, IsAscending, set_count_for};
 
@@ -10,6 +11,7 @@ use crate::codes::{Case, Targets};
 use crate::growth::{empty_sets, pass};
 use crate::listing::proc_at;
 use crate::places::set_count;
+use crate::plan::{Plan, all_rules, all_targets};
 use crate::scope::Scope;
 use cv_core::{List, Program};
 use std::alloc::{AllocError, Global};
@@ -27,12 +29,29 @@ fn set_total(s: &Scope) -> Option<usize>
 }
 
 /// Lets sets grow until they are closed, in passes.
-fn saturated(alloc: Global, s: &Scope, start: Vec<List<i32>>) -> Result<Vec<List<i32>>, AllocError>
-    requires { IsTable (length start.items) start.items }
+fn saturated(
+    alloc: Global,
+    s: &Scope,
+    plan: &Plan,
+    start: Vec<List<i32>>,
+) -> Result<Vec<List<i32>>, AllocError>
+    requires plan { IsPlan (setting s.now) plan.now.rules.now plan.now.targets.now }
+    requires table { IsTable (length start.items) start.items }
     ensures { IfOk result (λ sets. IsSaturated (setting s.entry.now) start.items sets.items) }
 {
     let mut sets = start;
-    while pass(alloc, s, &mut sets)? {}
+    while pass(alloc, s, plan, &mut sets)? {}
+    Ok(sets)
+}
+
+/// Closed sets, grown from empty ones.
+fn grown(alloc: Global, s: &Scope, plan: &Plan, count: usize) -> Result<Vec<List<i32>>, AllocError>
+    requires plan { IsPlan (setting s.now) plan.now.rules.now plan.now.targets.now }
+    requires count { count ≡ set_count_of (setting s.now) }
+    ensures { IfOk result (λ sets. AreLeast (setting s.entry.now) sets.items) }
+{
+    let start = empty_sets(alloc, count)?;
+    let sets = saturated(alloc, s, plan, start)?;
     Ok(sets)
 }
 
@@ -40,8 +59,13 @@ fn closed_sets(alloc: Global, s: &Scope, count: usize) -> Result<Vec<List<i32>>,
     requires { count ≡ set_count_of (setting s.now) }
     ensures { IfOk result (λ sets. AreLeast (setting s.entry.now) sets.items) }
 {
-    let start = empty_sets(alloc, count)?;
-    let sets = saturated(alloc, s, start)?;
+    let rules = all_rules(alloc, s)?;
+    let targets = all_targets(alloc, s)?;
+    let plan = Plan {
+        rules: rules.as_slice(),
+        targets: targets.as_slice(),
+    };
+    let sets = grown(alloc, s, &plan, count)?;
     Ok(sets)
 }
 

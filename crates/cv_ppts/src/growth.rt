@@ -1,14 +1,15 @@
 //! Sets of codes that grow by what they lack.
 ghost use Rattle.std.specs.Prelude.{◌≡◌, ◌++◌, ◌||◌, ◌∷◌, ◌≤◌, FitsSigned, IfOk, IfSome, OnOk, length, ℕ};
 ghost use Rattle.std.specs.Int.{w32};
-ghost use Rattle.cv_core.specs.Names.{stmts_of as stmts_in};
 ghost use Rattle.cv_ppts.specs.Growing.{AreEmpty, IsAdded, IsTable, Settles, inserted};
 ghost use Rattle.cv_ppts.specs.Keys.{setting};
 ghost use Rattle.cv_ppts.specs.Plain.{HasEntryCodes};
+ghost use Rattle.cv_ppts.specs.Planned.{IsPlan};
 ghost use Rattle.cv_ppts.specs.Targets.{AreClosed, HoldsAt};
 
-use crate::closed::{missing_at, missing_at_entry};
+use crate::closed::missing_at_entry;
 use crate::named::stmts_of;
+use crate::plan::{Plan, missing_by_plan};
 use crate::scope::Scope;
 use crate::sets::Missing;
 use cv_core::List;
@@ -101,15 +102,16 @@ fn enter(alloc: Global, s: &Scope, sets: &mut Vec<List<i32>>) -> Result<bool, Al
 fn settle(
     alloc: Global,
     s: &Scope,
+    plan: &Plan,
     sets: &mut Vec<List<i32>>,
     statement: usize,
 ) -> Result<bool, AllocError>
-    requires number { statement ≤ length (stmts_in s.now.f.now.body) }
+    requires plan { IsPlan (setting s.now) plan.now.rules.now plan.now.targets.now }
     requires table { IsTable (length sets.old.items) sets.old.items }
     ensures { IfOk result (λ more. Settles sets.old.items sets.new.items more (λ R. HoldsAt (setting s.entry.now) R statement)) }
 {
     let mut more = false;
-    while let Some(missing) = missing_at(s, sets.as_slice(), statement) {
+    while let Some(missing) = missing_by_plan(s, plan, sets.as_slice(), statement) {
         add(alloc, sets, missing)?;
         more = true;
     }
@@ -123,24 +125,36 @@ fn either(one: bool, other: bool) -> bool
 }
 
 /// Puts what each statement asks for into the sets, and says whether something was new.
-fn settle_body(alloc: Global, s: &Scope, sets: &mut Vec<List<i32>>) -> Result<bool, AllocError>
-    requires { IsTable (length sets.old.items) sets.old.items }
+fn settle_body(
+    alloc: Global,
+    s: &Scope,
+    plan: &Plan,
+    sets: &mut Vec<List<i32>>,
+) -> Result<bool, AllocError>
+    requires plan { IsPlan (setting s.now) plan.now.rules.now plan.now.targets.now }
+    requires table { IsTable (length sets.old.items) sets.old.items }
     ensures { IfOk result (λ more. Settles sets.old.items sets.new.items more (λ R. (k : ℕ) → HoldsAt (setting s.entry.now) R k)) }
 {
     let mut more = false;
     for statement in 0..stmts_of(s.f).len() {
-        let grew = settle(alloc, s, sets, statement)?;
+        let grew = settle(alloc, s, plan, sets, statement)?;
         more = either(more, grew);
     }
     Ok(more)
 }
 
 /// One pass over the codes at entry and the statements; it says whether something was new.
-pub(crate) fn pass(alloc: Global, s: &Scope, sets: &mut Vec<List<i32>>) -> Result<bool, AllocError>
-    requires { IsTable (length sets.old.items) sets.old.items }
+pub(crate) fn pass(
+    alloc: Global,
+    s: &Scope,
+    plan: &Plan,
+    sets: &mut Vec<List<i32>>,
+) -> Result<bool, AllocError>
+    requires plan { IsPlan (setting s.now) plan.now.rules.now plan.now.targets.now }
+    requires table { IsTable (length sets.old.items) sets.old.items }
     ensures { IfOk result (λ more. Settles sets.old.items sets.new.items more (λ R. AreClosed (setting s.entry.now) R)) }
 {
     let entered = enter(alloc, s, sets)?;
-    let grew = settle_body(alloc, s, sets)?;
+    let grew = settle_body(alloc, s, plan, sets)?;
     Ok(either(entered, grew))
 }

@@ -7,7 +7,7 @@ pub loop-statement-init : goal.loop-statement-init
 loop-statement-init c = settles_none (setting c.args.s.now) c.args.sets.now.items
 
 pub settle-requires-clause-table : goal.settle-requires-clause-table
-settle-requires-clause-table c = table_here c.args.sets.now.items c.loop-statement.sets.items c.loop-statement.more (HoldBelow (setting c.args.s.now) c.loop-statement.statement) c.loop-statement.invariant.grown c.requires
+settle-requires-clause-table c = table_here c.args.sets.now.items c.loop-statement.sets.items c.loop-statement.more (HoldBelow (setting c.args.s.now) c.loop-statement.statement) c.loop-statement.invariant.grown c.requires.table
 
 pub loop-statement-preserved : goal.loop-statement-preserved
 loop-statement-preserved c =
