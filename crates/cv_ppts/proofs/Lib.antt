@@ -14,3 +14,7 @@ pub mod Called
 pub mod Overs
 pub mod Formals
 pub mod Closing
+pub mod Inserted
+pub mod Grown
+pub mod Planning
+pub mod Losing

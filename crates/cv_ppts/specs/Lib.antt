@@ -13,3 +13,6 @@ pub mod Targets
 pub mod Keys
 pub mod Picked
 pub mod Lacking
+pub mod Growing
+pub mod Planned
+pub mod Lost

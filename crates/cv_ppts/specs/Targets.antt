@@ -137,3 +137,16 @@ ClosedIn P (Some f) codes T = AreClosed (record { program = P; proc = f; codes =
 
 abbrev pub AreClosedFor : Program → ℕ → List ℕ → Sets → Type 0
 AreClosedFor P i codes T = ClosedIn P (slice_get P.procs i) codes T
+
+abbrev pub count_in : Program → Option Proc → List ℕ → ℕ
+count_in P None codes = 0
+count_in P (Some f) codes = set_count (record { program = P; proc = f; codes = codes })
+
+abbrev pub set_count_for : Program → ℕ → List ℕ → ℕ
+set_count_for P i codes = count_in P (slice_get P.procs i) codes
+
+pub record AreLeastFor (P : Program) (i : ℕ) (codes : List ℕ) (T : Sets) : Type 0 where
+  pub counted : length T ≡ set_count_for P i codes
+  pub ascending : (h : ℕ) → IsAscending (codes_at T h)
+  pub closed : AreClosedFor P i codes T
+  pub least : (R : Sets) → length R ≡ set_count_for P i codes → AreClosedFor P i codes R → IsWithin T R

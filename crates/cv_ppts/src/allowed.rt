@@ -50,7 +50,7 @@ fn place_among(numbers: &[u32], number: usize) -> Option<usize>
     numbers.iter().position(|m| *m as usize == number)
 }
 
-fn number_among(numbers: &[u32], number: Option<usize>) -> Option<usize>
+pub(crate) fn number_among(numbers: &[u32], number: Option<usize>) -> Option<usize>
     ensures { result ≡ number_among_of numbers.now number }
 {
     match number {
@@ -82,7 +82,7 @@ pub(crate) fn code_behind(codes: &[u32], first: usize, number: usize) -> u32
 }
 
 /// The code of the entity that has a name; 0 where none has it.
-fn code_of_name(v: &View, x: &Bytes) -> u32
+pub(crate) fn code_of_name(v: &View, x: &Bytes) -> u32
     ensures { result ≡ code_of_name_in (scene v.entry.now) x.now }
 {
     let formals = v.f.formals.as_slice();
@@ -96,7 +96,7 @@ fn code_of_name(v: &View, x: &Bytes) -> u32
 }
 
 /// How many of the blocks are of pointer cells.
-fn cell_blocks(blocks: &[Block]) -> usize
+pub(crate) fn cell_blocks(blocks: &[Block]) -> usize
     ensures { result ≡ count_by is_cell_block_of blocks.now }
 {
     blocks
@@ -122,7 +122,7 @@ fn code_of_content(v: &View, code: u32) -> u32
 }
 
 /// Whether a name is that of a global that is a pointer cell.
-fn is_pointer_global(v: &View, x: &Bytes) -> bool
+pub(crate) fn is_pointer_global(v: &View, x: &Bytes) -> bool
     ensures { result ≡ is_pointer_global_in (scene v.entry.now) x.now }
 {
     same_class(class_named(v.p, x), Class::PointerCell)
@@ -151,7 +151,7 @@ fn starred_code(v: &View, w: &Bytes) -> Option<u32>
 }
 
 /// The code of a pointer at entry, None where it is undefined.
-fn pointer_code(v: &View, t: &PtrTerm) -> Option<u32>
+pub(crate) fn pointer_code(v: &View, t: &PtrTerm) -> Option<u32>
     ensures { result ≡ pointer_code_in (scene v.entry.now) t.now }
 {
     match t {
@@ -162,7 +162,7 @@ fn pointer_code(v: &View, t: &PtrTerm) -> Option<u32>
     }
 }
 
-fn lacks_object(code: Option<u32>) -> bool
+pub(crate) fn lacks_object(code: Option<u32>) -> bool
     ensures { result ≡ lacks_object_of code }
 {
     match code {
@@ -171,7 +171,7 @@ fn lacks_object(code: Option<u32>) -> bool
     }
 }
 
-fn is_wrong_null(equal: bool, code: Option<u32>) -> bool
+pub(crate) fn is_wrong_null(equal: bool, code: Option<u32>) -> bool
     ensures { result ≡ is_wrong_null_of equal code }
 {
     match code {
@@ -183,7 +183,7 @@ fn is_wrong_null(equal: bool, code: Option<u32>) -> bool
     }
 }
 
-fn is_not_apart(one: Option<u32>, other: Option<u32>) -> bool
+pub(crate) fn is_not_apart(one: Option<u32>, other: Option<u32>) -> bool
     ensures { result ≡ is_not_apart_of one other }
 {
     match (one, other) {
@@ -192,7 +192,7 @@ fn is_not_apart(one: Option<u32>, other: Option<u32>) -> bool
     }
 }
 
-fn is_other_base(one: Option<u32>, other: Option<u32>) -> bool
+pub(crate) fn is_other_base(one: Option<u32>, other: Option<u32>) -> bool
     ensures { result ≡ is_other_base_of one other }
 {
     match (one, other) {
@@ -202,7 +202,7 @@ fn is_other_base(one: Option<u32>, other: Option<u32>) -> bool
 }
 
 /// Whether a term is undefined by the codes.
-fn is_false_term(v: &View, t: &Term) -> bool
+pub(crate) fn is_false_term(v: &View, t: &Term) -> bool
     ensures { result ≡ is_false_term_in (scene v.entry.now) t.now }
 {
     match t {
@@ -282,7 +282,7 @@ fn item_code(v: &View, item: &Item) -> u32
 }
 
 /// Whether an item names the object of a literal.
-fn is_changed_literal(v: &View, literals: &[u32], item: &Item) -> bool
+pub(crate) fn is_changed_literal(v: &View, literals: &[u32], item: &Item) -> bool
     ensures { result ≡ is_changed_literal_in (scene v.entry.now) literals.now item.now }
 {
     is_member(item_code(v, item), literals)
@@ -324,7 +324,7 @@ pub(crate) fn behind(codes: &[u32], count: usize) -> &[u32]
 }
 
 /// The codes of the literals.
-fn literal_codes<'a>(v: &View<'a>) -> &'a [u32]
+pub(crate) fn literal_codes<'a>(v: &View<'a>) -> &'a [u32]
     ensures { result.now ≡ drop (length (filter (λ x. pointer_kind x.kind) v.entry.now.f.now.formals) + length v.entry.now.listed.now) (take v.entry.now.named v.entry.now.codes.now) }
 {
     let others = behind(

@@ -5,7 +5,7 @@ ghost use Rattle.cv_core.specs.Names.{stmts_of as stmts_in};
 ghost use Rattle.cv_points.specs.Holders.{pointer_count as pointer_count_of, pointer_locals};
 ghost use Rattle.cv_ppts.specs.Keys.{setting};
 ghost use Rattle.cv_ppts.specs.Lacking.{Lacks};
-ghost use Rattle.cv_ppts.specs.Plain.{AreCoded, AreUnknown, HasEntryCodes};
+ghost use Rattle.cv_ppts.specs.Plain.{AreCoded, AreUnknown, HasEntryCodes, plain_rule as plain_rule_of};
 ghost use Rattle.cv_ppts.specs.Setting.{allocates as allocates_of, block_count as block_count_of, cell_blocks as cell_blocks_of, first_content as first_content_of, formal_count as formal_count_of, object_cells};
 ghost use Rattle.cv_ppts.specs.Targets.{AreClosed, AreClosedFor, CallFormHolds, CallStatementHolds, FormHolds, HoldsAt};
 
@@ -15,7 +15,9 @@ use crate::listing::proc_at;
 use crate::named::stmts_of;
 use crate::places::{allocates, cell_count, local_count, locals_of, new_target, pointer_count};
 use crate::scope::{Scope, block_count, cell_blocks, content_codes, formals_of};
-use crate::sets::{Missing, missing_coded, missing_plain, missing_unknown, place_of_variable};
+use crate::sets::{
+    Missing, Rule, missing_by, missing_coded, missing_unknown, place_of_variable, plain_rule,
+};
 use cv_core::{AnyOperand, Bytes, Form, List, Proc, Program, Stmt};
 
 // ---- the codes at entry
@@ -72,7 +74,7 @@ fn missing_of_cells(s: &Scope, sets: &[List<i32>]) -> Option<Missing>
 }
 
 /// What the codes at entry ask for.
-fn missing_at_entry(s: &Scope, sets: &[List<i32>]) -> Option<Missing>
+pub(crate) fn missing_at_entry(s: &Scope, sets: &[List<i32>]) -> Option<Missing>
     ensures { MatchOption result (HasEntryCodes (setting s.entry.now) sets.now) (λ m. Lacks sets.now (λ R. HasEntryCodes (setting s.entry.now) R) m.to m.code) }
 {
     match missing_of_formals(s, sets) {
@@ -143,19 +145,34 @@ fn missing_call(s: &Scope, sets: &[List<i32>], target: u128, form: &Form) -> Opt
     }
 }
 
-/// What a statement asks for.
-fn missing_in_form(s: &Scope, sets: &[List<i32>], target: u128, form: &Form) -> Option<Missing>
-    requires { target < 2 ^ 66 }
+/// What a statement asks for, whose rule is given.
+pub(crate) fn missing_for(
+    s: &Scope,
+    sets: &[List<i32>],
+    rule: Option<Rule>,
+    target: u128,
+    form: &Form,
+) -> Option<Missing>
+    requires rule { rule ≡ plain_rule_of (setting s.now) form.now }
+    requires target { target < 2 ^ 66 }
     ensures { MatchOption result (FormHolds (setting s.entry.now) sets.now (pos target) form.now) (λ m. Lacks sets.now (λ R. FormHolds (setting s.entry.now) R (pos target) form.now) m.to m.code) }
 {
-    match missing_plain(s, sets, form) {
+    match missing_by(s, sets, rule) {
         Some(missing) => Some(missing),
         None => missing_call(s, sets, target, form),
     }
 }
 
+/// What a statement asks for.
+fn missing_in_form(s: &Scope, sets: &[List<i32>], target: u128, form: &Form) -> Option<Missing>
+    requires { target < 2 ^ 66 }
+    ensures { MatchOption result (FormHolds (setting s.entry.now) sets.now (pos target) form.now) (λ m. Lacks sets.now (λ R. FormHolds (setting s.entry.now) R (pos target) form.now) m.to m.code) }
+{
+    missing_for(s, sets, plain_rule(s, form), target, form)
+}
+
 /// The statement of a number.
-fn statement_at(f: &Proc, statement: usize) -> Option<&Stmt>
+pub(crate) fn statement_at(f: &Proc, statement: usize) -> Option<&Stmt>
     ensures { option_copied result ≡ slice_get (stmts_in f.now.body) statement }
 {
     match &f.body {

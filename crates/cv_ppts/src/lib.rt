@@ -7,11 +7,15 @@ mod calls;
 mod closed;
 mod codes;
 mod entities;
+mod fixpoint;
+mod growth;
 mod listing;
+mod lost;
 mod named;
 mod outcomes;
 mod picks;
 mod places;
+mod plan;
 mod scope;
 mod search;
 mod sets;
@@ -19,6 +23,7 @@ mod sets;
 pub use closed::targets_closed;
 pub use codes::{Case, CaseError, Targets};
 pub use entities::Class;
+pub use fixpoint::targets;
 pub use listing::cases;
 
 #[cfg(test)]

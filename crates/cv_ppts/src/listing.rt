@@ -93,8 +93,9 @@ fn all_cases(
 
 /// The alias cases of the procedure of this number over a family: all lists of codes that its entities can have at
 /// entry by the sites of the family, ascending, each once. `Limit` is given exactly where they are more than 64; the
-/// other error is want of memory. Codes are given to the entities one after the other, and a list is given up where
-/// an entity can't have its code.
+/// other error is want of memory. Codes are given to the entities one after the other. A list is given up where an
+/// entity can't have its code, and as soon as the codes so far make an atom of requires false, or show an item of
+/// modifies that is a literal's, whatever codes come behind.
 pub fn cases(
     alloc: Global,
     p: &Program,

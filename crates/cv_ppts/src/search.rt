@@ -5,11 +5,13 @@ ghost use Rattle.cv_points.specs.Growing.{place_at};
 ghost use Rattle.cv_ppts.specs.Allowed.{is_allowed as is_allowed_in};
 ghost use Rattle.cv_ppts.specs.Cases.{scene_of};
 ghost use Rattle.cv_ppts.specs.Entities.{content_entities as content_entities_of, content_entity as content_entity_of, held as held_in, held_at as held_at_place};
+ghost use Rattle.cv_ppts.specs.Lost.{is_lost as is_lost_in};
 ghost use Rattle.cv_ppts.specs.Listed.{IsFound, IsSearch, code_limit as code_limit_of, content_lists, named_lists};
 
 use crate::allowed::{View, is_allowed};
 use crate::blocks::{after_code, same_class};
 use crate::entities::{Block, Class, Entity};
+use crate::lost::is_lost;
 use crate::named::set_at;
 use cv_core::{List, Proc, Program};
 use std::alloc::{AllocError, Global};
@@ -142,6 +144,21 @@ fn put_case(
     Ok(true)
 }
 
+/// Whether the contract allows no codes that go on from these.
+fn goes_nowhere(s: &Search, named: usize, blocks: &[Block], done: &[u32]) -> bool
+    requires { IsSearch s.now }
+    ensures { result ≡ is_lost_in (scene_of s.entry.now.p.now s.entry.now.f.now blocks.now done.now named) }
+{
+    is_lost(&View {
+        p: s.p,
+        f: s.f,
+        listed: s.listed,
+        named,
+        blocks,
+        codes: done,
+    })
+}
+
 /// One more than the code of a new block.
 fn code_limit(blocks: &[Block]) -> Result<usize, AllocError>
     ensures { IfOk result (λ n. n ≡ code_limit_of blocks.now) }
@@ -167,6 +184,9 @@ fn find_contents(
     requires few { length found.old.items ≤ 64 }
     ensures { IfOk result (λ all. IsFound found.old.items found.new.items (content_lists s.entry.now.p.now s.entry.now.f.now named entities.now blocks.now done.now) all) }
 {
+    if goes_nowhere(s, named, blocks, done) {
+        return Ok(true);
+    }
     let [entity, more @ ..] = entities else {
         return put_case(alloc, s, named, blocks, done, found);
     };
@@ -205,6 +225,9 @@ pub(crate) fn find_named(
     requires few { length found.old.items ≤ 64 }
     ensures { IfOk result (λ all. IsFound found.old.items found.new.items (named_lists s.entry.now.p.now s.entry.now.sets.now s.entry.now.f.now entities.now blocks.now done.now) all) }
 {
+    if goes_nowhere(s, done.len(), blocks, done) {
+        return Ok(true);
+    }
     let [entity, more @ ..] = entities else {
         let contents = content_entities(alloc, s, blocks)?;
         let all = find_contents(

@@ -200,7 +200,8 @@ fn missing_by_rule(s: &Scope, sets: &[List<i32>], rule: Rule) -> Option<Missing>
     }
 }
 
-fn missing_by(s: &Scope, sets: &[List<i32>], rule: Option<Rule>) -> Option<Missing>
+/// What the rule of a statement asks of the sets and the sets lack.
+pub(crate) fn missing_by(s: &Scope, sets: &[List<i32>], rule: Option<Rule>) -> Option<Missing>
     ensures { MatchOption result (MaybeHolds (setting s.entry.now) sets.now rule) (λ m. Lacks sets.now (λ R. MaybeHolds (setting s.entry.now) R rule) m.to m.code) }
 {
     match rule {
@@ -329,7 +330,7 @@ fn copy_rule(s: &Scope, p: &Bytes, q: &Option<Bytes>) -> Option<Rule>
 }
 
 /// The rule of a statement that isn't a call.
-fn plain_rule(s: &Scope, form: &Form) -> Option<Rule>
+pub(crate) fn plain_rule(s: &Scope, form: &Form) -> Option<Rule>
     ensures { result ≡ plain_rule_of (setting s.entry.now) form.now }
 {
     match form {
@@ -353,13 +354,6 @@ fn plain_rule(s: &Scope, form: &Form) -> Option<Rule>
         Form::Call { .. } => None,
         Form::Return(_) => None,
     }
-}
-
-/// What a statement that isn't a call asks of the sets and the sets lack.
-pub(crate) fn missing_plain(s: &Scope, sets: &[List<i32>], form: &Form) -> Option<Missing>
-    ensures { MatchOption result (MaybeHolds (setting s.entry.now) sets.now (plain_rule_of (setting s.entry.now) form.now)) (λ m. Lacks sets.now (λ R. MaybeHolds (setting s.entry.now) R (plain_rule_of (setting s.entry.now) form.now)) m.to m.code) }
-{
-    missing_by(s, sets, plain_rule(s, form))
 }
 
 // ---- the codes at entry

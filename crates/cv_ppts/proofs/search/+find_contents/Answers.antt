@@ -5,6 +5,7 @@ use Rattle.cv_ppts.specs.Walk.{after_code}
 use Rattle.cv_ppts.specs.declared.entities.Block.{Block}
 use Rattle.cv_ppts.specs.declared.entities.Entity.{Entity}
 use Rattle.cv_ppts.proofs.Courses.{IsOnCourse, Lists, course_goes_on, course_is_too_long, course_passes, found_here, go_none, none_of, peeled, some_of}
+use Rattle.cv_ppts.proofs.Losing.{contents_none, found_nothing}
 use Rattle.cv_ppts.proofs.search.+find_contents.Goals as goal
 use Rattle.cv_ppts.proofs.search.+find_contents.Goals.{in-None, in-Some+in_ok-codes-in-Some+in_ok-find_contents-in-Some+else-not-branch}
 
@@ -42,3 +43,8 @@ loop-code-preserved t c =
           (some_of _ c.in_ok-after_code.field-0 _ w.in-Some.next c.in_ok-after_code.ensures w.in-Some.is) w.as_slice.ensures.value (w.as_slice-in-Some.ensures.value ∙ w.in_ok-codes-in-Some.ensures)
           w.in_ok-find_contents-in-Some.ensures))
     ]
+
+pub returns-then-goes_nowhere : goal.returns-then-goes_nowhere
+returns-then-goes_nowhere t c =
+    found_nothing c.args.found.now.items (content_lists c.args.s.now.p.now c.args.s.now.f.now c.args.named c.args.entities.now c.args.blocks.now c.args.done.now)
+    (contents_none c.args.s.now.p.now c.args.s.now.f.now c.args.named c.args.entities.now c.args.blocks.now c.args.done.now (sym c.goes_nowhere.ensures ∙ c.if-goes_nowhere.true)) c.requires.few

@@ -5,6 +5,7 @@ use Rattle.cv_ppts.specs.Walk.{after_code}
 use Rattle.cv_ppts.specs.declared.entities.Block.{Block}
 use Rattle.cv_ppts.specs.declared.entities.Entity.{Entity}
 use Rattle.cv_ppts.proofs.Courses.{IsOnCourse, Lists, course_goes_on, course_is_over, course_is_too_long, course_passes, found_here, go_none, none_of, peeled, some_of}
+use Rattle.cv_ppts.proofs.Losing.{named_none, found_nothing}
 use Rattle.cv_ppts.proofs.search.+find_named.Goals as goal
 use Rattle.cv_ppts.proofs.search.+find_named.Goals.{in-None, in-Some+in_ok-codes-in-Some+in_ok-find_named-in-Some+else-not-branch}
 
@@ -51,3 +52,8 @@ returns t c =
     let all : c.args.entities.now ≡ c.entity-item.result ∷ more = peeled c.args.entities.now c.entity-item.result _ c.in-len1-up.len_at_least c.entity-item.is in
     subst (λ L. (c.loop-code.found.items ≡ c.args.found.now.items ++ L) × (length c.loop-code.found.items ≤ 64)) (ap (λ es. named_lists c.args.s.now.p.now c.args.s.now.sets.now c.args.s.now.f.now es c.args.blocks.now c.args.done.now) (sym all))
     (course_is_over c.args.found.now.items c.loop-code.found.items lists c.loop-code.code (code_limit c.args.blocks.now) (omega (arith, c.in_ok-code-end.ensures)) c.loop-code.invariant)
+
+pub returns-then-goes_nowhere : goal.returns-then-goes_nowhere
+returns-then-goes_nowhere t c =
+    found_nothing c.args.found.now.items (named_lists c.args.s.now.p.now c.args.s.now.sets.now c.args.s.now.f.now c.args.entities.now c.args.blocks.now c.args.done.now)
+    (named_none c.args.s.now.p.now c.args.s.now.sets.now c.args.s.now.f.now c.args.entities.now c.args.blocks.now c.args.done.now (sym c.goes_nowhere.ensures ∙ c.if-goes_nowhere.true)) c.requires.few

@@ -1,0 +1,139 @@
+#!/usr/bin/env bash
+# How `least` of cv_points and `cases` and `targets` of cv_ppts grow with the procedures of a program and their
+# statements. Makes a scratch program outside the repository from the text below, proves and builds it over a copy of
+# the crates, and times it over generated CoreC text. `least` is called REPEATS times, `cases` once for each procedure,
+# and `targets` once for each case; the time of a run that only reads the text is taken off.
+#
+#   bench/points.sh [REPEATS]        (1 where none is given)
+set -eu
+repeats=${1:-1}
+here=$(cd "$(dirname "$0")/.." && pwd)
+work=$(mktemp -d "${TMPDIR:-/tmp}/points-bench.XXXXXX")
+trap 'rm -rf "$work"' EXIT
+
+mkdir -p "$work/crates/points_bench/src"
+for name in cv_list cv_core cv_lex cv_reading cv_text cv_points cv_ppts; do
+    mkdir -p "$work/crates/$name"
+    for part in src specs proofs; do
+        cp -r "$here/crates/$name/$part" "$work/crates/$name/" 2>/dev/null || true
+    done
+done
+grep -E '^(cv_list|cv_core|cv_lex|cv_reading|cv_text|cv_points|cv_ppts):' "$here/crates.txt" >"$work/crates.txt"
+echo 'points_bench: cv_core cv_text cv_points cv_ppts anyhow' >>"$work/crates.txt"
+
+cat >"$work/crates/points_bench/src/main.rt" <<'PROGRAM'
+//! Reads a program, and then calls `least` so many times, and `cases` and `targets` of its procedures.
+#![tactic(auto)]
+
+use anyhow::{Result, bail};
+use cv_core::{Program, PtsTable};
+use cv_points::least;
+use cv_ppts::{cases, targets};
+use cv_text::read_core;
+use std::alloc::Global;
+use std::rt::Files;
+use std::{env, fs};
+
+/// How many cases the procedure of a number has, and how many sets of codes they have, where they are asked for.
+fn of_procedure(
+    alloc: Global,
+    program: &Program,
+    proc: u32,
+    table: &PtsTable,
+    with_targets: bool,
+) -> Result<(usize, usize)> {
+    let Ok(found) = cases(alloc, program, proc, table) else {
+        bail!("no list of cases");
+    };
+    let mut sets: usize = 0;
+    if with_targets {
+        for case in &found {
+            sets = sets.wrapping_add(targets(alloc, program, proc, case)?.sets.len());
+        }
+    }
+    Ok((found.len(), sets))
+}
+
+fn run(rt: &(impl Print + Files), alloc: Global, text: &[u8], least_calls: u32, codes: u32) -> Result<()> {
+    if text.len() >= 4294967295 {
+        bail!("too long");
+    }
+    let Ok(program) = read_core(alloc, text) else {
+        bail!("no CoreC text");
+    };
+    for _ in 0..least_calls {
+        rt.println(least(alloc, &program)?.sets.len())?;
+    }
+    if codes > 0 {
+        let table = least(alloc, &program)?;
+        let mut all: usize = 0;
+        let mut sets: usize = 0;
+        for proc in 0..1000u32 {
+            let (some, more) = of_procedure(alloc, &program, proc, &table, codes > 1)?;
+            all = all.wrapping_add(some);
+            sets = sets.wrapping_add(more);
+        }
+        rt.println(all)?;
+        rt.println(sets)?;
+    }
+    Ok(())
+}
+
+fn main(rt: HostRuntime) -> Result<()> {
+    let words = env::args(&rt)?;
+    let mut path = String::new(rt.alloc());
+    let mut numbers = [0u32; 2];
+    for (place, word) in words.skip(1).take(3).enumerate() {
+        if place == 0 {
+            path.push_str(word.as_str())?;
+        } else if let (Some(slot), Ok(number)) = (numbers.get_mut(place - 1), word.as_str().parse::<u32>()) {
+            *slot = number;
+        }
+    }
+    let text = fs::read(&rt, path.as_str())?;
+    let [least_calls, codes] = numbers;
+    run(&rt, rt.alloc(), text.as_slice(), least_calls, codes)
+}
+PROGRAM
+
+text_of() { # PROCEDURES STATEMENTS: each procedure calls the one before it
+    awk -v procs="$1" -v stmts="$2" 'BEGIN {
+        print "literal hello { 104, 105 };"
+        line = 1
+        for (p = 0; p < procs; p++) {
+            name = p < procs - 1 ? "work" p : "main"
+            printf "%d: proc ptr %s(ptr s, pptr w)\nrequires s != null, *w != null;\nmodifies body(s), *w;\nensures base(result, s);\n", line++, name
+            printf "{\nint n;\nptr q;\nptr r;\nbuf b 64;\npcell c;\npptr v;\n"
+            for (n = 0; n + 10 < stmts; n += 10) {
+                printf "%d: q = &b;\n%d: r = q + 1;\n%d: v = &c;\n%d: put v, r;\n", line, line, line, line
+                printf "%d: q = get w;\n%d: r = &hello;\n%d: put w, s;\n%d: q = malloc(n);\n%d: n = n + 1;\n", line, line, line, line, line
+                if (p > 0) printf "%d: r = work%d(q, v);\n", line, p - 1; else printf "%d: r = q;\n", line
+                line++
+            }
+            printf "%d: return s;\n}\n", line++
+        }
+    }'
+}
+
+cd "$work/crates/points_bench"
+text_of 3 21 >"$work/text"
+rt run -- "$work/text" 1 2 >"$work/build.log" 2>&1 || { cat "$work/build.log"; exit 1; }
+nanoseconds() { # of a run with so many calls
+    local start end
+    start=$(date +%s%N)
+    ./out/points_bench "$work/text" "$@" >/dev/null
+    end=$(date +%s%N)
+    echo $((end - start))
+}
+echo "procedures  statements of each  milliseconds of a call of least, of cases of all, of targets of all cases"
+for shape in "64 250" "128 250" "256 250" "64 1000" "256 1000"; do
+    set -- $shape
+    text_of "$1" "$2" >"$work/text"
+    idle=$(nanoseconds 0 0)
+    least=$(nanoseconds "$repeats" 0)
+    once=$(nanoseconds 1 0)
+    cases=$(nanoseconds 0 1)
+    targets=$(nanoseconds 0 2)
+    awk -v p="$1" -v s="$2" -v i="$idle" -v n="$repeats" -v l="$least" -v o="$once" -v c="$cases" -v t="$targets" \
+        'BEGIN { printf "%d  %d  %.1f  %.1f  %.1f\n", p, s, (l - i) / n / 1000000, (c - o) / 1000000, (t - c) / 1000000 }'
+done
