@@ -4,3 +4,8 @@ pub mod Machine
 pub mod Start
 pub mod Seen
 pub mod Stack
+pub mod Cells
+pub mod Takes
+pub mod Sound
+pub mod Entered
+pub mod Good

@@ -1,7 +1,7 @@
 -- The stack that the fields of a machine stand for.
 use Rattle.std.specs.Prelude.{ℕ, List, map}
 use Rattle.cv_meaning.specs.declared.memory.Value.{Value}
-use Rattle.cv_interp.specs.declared.machine.Machine.TheInside.{Inside}
+use Rattle.cv_interp.specs.declared.machine.Core.{Core}
 use Rattle.cv_interp.specs.declared.store.Activation.{Activation}
 use Rattle.cv_interp.specs.declared.store.Waiting.{Waiting}
 use Rattle.cv_interp.specs.Level.{Level, Stack}
@@ -22,7 +22,7 @@ level_at a k vs = record {
 abbrev pub waiting_level : Waiting → Level
 waiting_level w = level_at w.activation w.at w.vars.items
 
-abbrev pub stack_of : Inside → Stack
+abbrev pub stack_of : Core → Stack
 stack_of m = record {
   program = m.program.now;
   waiting = map waiting_level m.waiting.items;

@@ -14,7 +14,7 @@ use std::mem;
 pub(crate) fn give(
     p: &Program,
     f: &Proc,
-    into: &Option<Bytes>,
+    into: Option<&Bytes>,
     answer: Option<Value>,
     vars: &mut Vec<Value>,
 ) {
@@ -44,7 +44,7 @@ pub(crate) enum Called<'a> {
 #[derive(Clone, Copy, Drop)]
 pub(crate) struct Site<'b> {
     pub(crate) k: usize,
-    pub(crate) into: &'b Option<Bytes>,
+    pub(crate) into: Option<&'b Bytes>,
     pub(crate) args: &'b [Value],
 }
 
@@ -79,7 +79,7 @@ fn malloc<'a>(
     let Some(number) = malloc_site(p, a.number as usize, a.proc, site.k) else {
         return Err(AllocError);
     };
-    let object = make_buffer(alloc, &s.world, number, size as usize, &mut s.room)?;
+    let object = make_buffer(alloc, a.proc, &s.world, number, size as usize, &mut s.room)?;
     s.room.taken = after_allocation(&s.world, s.room.taken);
     given(p, a, site, Value::Ptr(Ptr::At { object, offset: 0 }), s);
     Ok(Called::Goes)
@@ -276,7 +276,7 @@ pub(crate) fn call<'a>(
     let values = values_of(alloc, a, s, args.as_slice())?;
     let site = Site {
         k,
-        into,
+        into: into.as_ref(),
         args: values.as_slice(),
     };
     if x == b"malloc".as_slice() {

@@ -1,5 +1,18 @@
 //! Entering a procedure.
-use crate::items::{Entry, item_objects};
+ghost use Rattle.std.specs.Prelude.{◌≡◌, ◌∷◌, [], ◌++◌, ◌<◌, ◌≤◌, ◌^◌, ℕ, IfOk, List, OnErr, OnOk, false, length, map, replicate, true};
+ghost use Rattle.cv_core.specs.Names.{locals_of as locals_in};
+ghost use Rattle.cv_meaning.specs.Call.{entered, may_enter as may_enter_in};
+ghost use Rattle.cv_meaning.specs.Few.{AreFew};
+ghost use Rattle.cv_meaning.specs.Look.{look};
+ghost use Rattle.cv_meaning.specs.Memory.{IsShort};
+ghost use Rattle.cv_meaning.specs.State.{fresh_bytes as fresh_bytes_in, make_local, make_locals as make_locals_in, spend, with_object};
+ghost use Rattle.cv_interp.specs.Entered.{AreVariables, IsRoom, arguments, arrived};
+ghost use Rattle.cv_interp.specs.Seen.{left, state_in};
+ghost use Rattle.cv_interp.specs.Slots.{env_of, is_variable, slot_names, variables_of};
+ghost use Rattle.cv_interp.specs.Takes.{HasSlot};
+ghost use Rattle.cv_meaning.specs.declared.memory.Body.TheVariants.{Buffer};
+
+use crate::items::item_objects;
 use crate::slots::{as_kind, locals_of, set_var};
 use crate::store::{Room, Taken};
 use crate::world::{fresh, fresh_bytes, spent};
@@ -16,7 +29,13 @@ pub(crate) fn make(
     made: &mut u64,
     site: u32,
     body: &Body,
-) -> Result<u64, AllocError> {
+) -> Result<u64, AllocError>
+    requires short { IsShort body.now }
+    requires made { made.old ≡ length memory.old }
+    ensures ok { IfOk result (λ object. (object ≡ length memory.old) × (memory.new ≡ memory.old ++ record { site = site; live = true; body = body.now } ∷ []) × (made.new ≡ length memory.new)) }
+    ensures err { OnErr result ((memory.new ≡ memory.old) × (made.new ≡ made.old)) }
+    ensures few { made.old ≤ 2 ^ 62 → made.new ≤ 2 ^ 62 }
+{
     if *made >= MOST_OBJECTS {
         return Err(AllocError);
     }
@@ -33,12 +52,15 @@ pub(crate) struct Guest {
 }
 
 /// Puts each formal with its argument behind others.
+#[tactic(auto, using(crate::proofs::Bound::more_arguments, crate::proofs::Bound::wild_argument))]
 fn bind(
     alloc: Global,
     formals: &[Formal],
     args: &[Value],
     bound: &mut List<NamedValue>,
-) -> Result<(), AllocError> {
+) -> Result<(), AllocError>
+    ensures { OnOk result (bound.new ≡ bound.old ++ arguments formals.now args.now) }
+{
     match formals {
         [] => Ok(()),
         [first, rest @ ..] => {
@@ -71,13 +93,20 @@ pub(crate) fn guest_of(
     args: &[Value],
     memory: &Mem,
     made: u64,
-) -> Result<Guest, AllocError> {
+) -> Result<Guest, AllocError>
+    requires { made ≡ length memory.now }
+    ensures arrived { IfOk result (λ guest. (i : ℕ) → arrived i g.now guest memory.now ≡ entered p.now i g.now args.now memory.now) }
+    ensures names { IfOk result (λ guest. map (λ n. n.name) guest.formals ≡ map (λ f. f.name) g.now.formals) }
+{
     let mut formals = List::new(alloc);
     bind(alloc, g.formals.as_slice(), args, &mut formals)?;
-    let entry = Entry {
-        globals: &p.globals,
+    let entry = View {
+        at_entry: memory,
+        now: memory,
         formals: &formals,
-        memory,
+        globals: &p.globals,
+        answer: None,
+        first: made,
     };
     let allowed = item_objects(alloc, &entry, g.contract.changes.as_slice())?;
     let literals = p.globals.len() as u64;
@@ -90,7 +119,11 @@ pub(crate) fn guest_of(
 }
 
 /// Whether requires holds at entry.
-pub(crate) fn may_enter(p: &Program, g: &Proc, guest: &Guest, memory: &Mem) -> bool {
+pub(crate) fn may_enter(p: &Program, g: &Proc, guest: &Guest, memory: &Mem) -> bool
+    requires few { AreFew g.now.contract }
+    requires names { map (λ n. n.name) guest.now.formals ≡ map (λ f. f.name) g.now.formals }
+    ensures { (i : ℕ) → result ≡ may_enter_in p.now (arrived i g.now guest.now memory.now) }
+{
     let view = View {
         at_entry: memory,
         now: memory,
@@ -102,7 +135,10 @@ pub(crate) fn may_enter(p: &Program, g: &Proc, guest: &Guest, memory: &Mem) -> b
     holds(&g.contract, Part::Requires, &view)
 }
 
-fn variable_count(locals: &[Local]) -> usize {
+fn variable_count(locals: &[Local]) -> usize
+    ensures count { result ≡ length (variables_of locals.now) }
+    ensures within { result ≤ length locals.now }
+{
     match locals {
         [] => 0,
         [first, rest @ ..] => {
@@ -115,41 +151,70 @@ fn variable_count(locals: &[Local]) -> usize {
     }
 }
 
+/// Puts so many wild pointers behind others.
+fn put_wild(vars: &mut Vec<Value>, count: usize) -> Result<(), AllocError>
+    ensures { OnOk result (vars.new.items ≡ vars.old.items ++ replicate count (Value.Ptr Ptr.Wild)) }
+{
+    if count == 0 {
+        return Ok(());
+    }
+    vars.push(Value::Ptr(Ptr::Wild))?;
+    put_wild(vars, count - 1)
+}
+
 /// The variables as the procedure is entered: the formals, and wild ones.
 fn first_vars(
     alloc: Global,
     formals: &[NamedValue],
     locals: &[Local],
-) -> Result<Vec<Value>, AllocError> {
-    let mut vars = Vec::new(alloc);
-    for formal in formals {
-        vars.push(formal.value)?;
-    }
-    for _ in 0..variable_count(locals) {
-        vars.push(Value::Ptr(Ptr::Wild))?;
-    }
+) -> Result<Vec<Value>, AllocError>
+    ensures { IfOk result (λ vars. vars.items ≡ map (λ f. f.value) formals.now ++ replicate (length (variables_of locals.now)) (Value.Ptr Ptr.Wild)) }
+{
+    let mut vars = formals.iter().map(|f| f.value).collect(alloc)?;
+    let count = variable_count(locals);
+    put_wild(&mut vars, count)?;
     Ok(vars)
 }
 
-fn make_variable(p: &Program, g: &Proc, w: &World, x: &[u8], kind: VarKind, room: &mut Room) {
+/// Makes a local variable: of a number a fresh one, of a pointer a wild one.
+fn make_variable(p: &Program, g: &Proc, w: &World, x: &[u8], kind: VarKind, room: &mut Room)
+    requires slot { HasSlot g.now x.now }
+    requires room { IsRoom g.now room.old }
+    ensures state { (site : ℕ) (out : List ℕ) → state_in g.now w.now out room.new ≡ make_local p.now site x.now (LocalBody.Var kind) (state_in g.now w.now out room.old) }
+    ensures room { IsRoom g.now room.new }
+{
     match kind {
-        VarKind::Int | VarKind::Char => {
-            let v = as_kind(p, kind, fresh(w, room.taken));
+        VarKind::Int => {
+            set_var(g, &mut room.vars, x, Value::Int(fresh(w, room.taken)));
+            room.taken = spent(w, room.taken, 1);
+        }
+        VarKind::Char => {
+            let v = as_kind(p, VarKind::Char, fresh(w, room.taken));
             set_var(g, &mut room.vars, x, v);
             room.taken = spent(w, room.taken, 1);
         }
-        _ => set_var(g, &mut room.vars, x, Value::Ptr(Ptr::Wild)),
+        VarKind::Ptr => set_var(g, &mut room.vars, x, Value::Ptr(Ptr::Wild)),
+        VarKind::Pptr => set_var(g, &mut room.vars, x, Value::Ptr(Ptr::Wild)),
+        VarKind::Iptr => set_var(g, &mut room.vars, x, Value::Ptr(Ptr::Wild)),
     }
 }
 
 /// Makes a buffer of fresh bytes.
 pub(crate) fn make_buffer(
     alloc: Global,
+    g: &Proc,
     w: &World,
     site: u32,
     size: usize,
     room: &mut Room,
-) -> Result<u64, AllocError> {
+) -> Result<u64, AllocError>
+    requires short { size < 2 ^ 31 }
+    requires room { IsRoom g.now room.old }
+    ensures object { IfOk result (λ object. object ≡ length room.old.memory) }
+    ensures state { OnOk result ((out : List ℕ) → state_in g.now w.now out room.new ≡ spend size (with_object (record { site = site; live = true; body = Buffer (fresh_bytes_in size (left w.now room.old.taken)) }) (state_in g.now w.now out room.old))) }
+    ensures room { OnOk result (IsRoom g.now room.new) }
+    ensures err { OnErr result (room.new ≡ room.old) }
+{
     let bytes = fresh_bytes(alloc, w, room.taken, size)?;
     let body = Body::Buffer(Bytes::from_vec(bytes));
     let object = make(&mut room.memory, &mut room.made, site, &body)?;
@@ -160,18 +225,26 @@ pub(crate) fn make_buffer(
 /// Makes an object of a local.
 fn make_object(
     alloc: Global,
+    p: &Program,
+    g: &Proc,
     w: &World,
     site: u32,
+    x: &[u8],
     body: LocalBody,
     room: &mut Room,
-) -> Result<(), AllocError> {
+) -> Result<(), AllocError>
+    requires object { is_variable body ≡ false }
+    requires room { IsRoom g.now room.old }
+    ensures state { OnOk result ((out : List ℕ) → state_in g.now w.now out room.new ≡ make_local p.now site x.now body (state_in g.now w.now out room.old)) }
+    ensures room { OnOk result (IsRoom g.now room.new) }
+{
     match body {
         LocalBody::Var(_) => {}
         LocalBody::Buffer(size) => {
             if size > 2147483647 {
                 return Err(AllocError);
             }
-            let _object = make_buffer(alloc, w, site, size as usize, room)?;
+            let _object = make_buffer(alloc, g, w, site, size as usize, room)?;
         }
         LocalBody::PointerCell => {
             let cell = Body::Cell(Value::Ptr(Ptr::Wild));
@@ -195,7 +268,12 @@ fn make_locals(
     site: u32,
     locals: &[Local],
     room: &mut Room,
-) -> Result<(), AllocError> {
+) -> Result<(), AllocError>
+    requires variables { AreVariables g.now locals.now }
+    requires room { IsRoom g.now room.old }
+    ensures state { OnOk result ((out : List ℕ) → state_in g.now w.now out room.new ≡ make_locals_in p.now site locals.now (state_in g.now w.now out room.old)) }
+    ensures room { OnOk result (IsRoom g.now room.new) }
+{
     match locals {
         [] => Ok(()),
         [first, rest @ ..] => match first.body {
@@ -204,7 +282,7 @@ fn make_locals(
                 make_locals(alloc, p, g, w, site, rest, room)
             }
             body => {
-                make_object(alloc, w, site, body, room)?;
+                make_object(alloc, p, g, w, site, first.name.as_slice(), body, room)?;
                 match site.checked_add(1) {
                     None => Err(AllocError),
                     Some(next) => make_locals(alloc, p, g, w, next, rest, room),
@@ -225,7 +303,14 @@ pub(crate) fn furnished(
     made: u64,
     w: &World,
     taken: Taken,
-) -> Result<Room, AllocError> {
+) -> Result<Room, AllocError>
+    requires variables { AreVariables g.now (locals_in g.now.body) }
+    requires names { map (λ n. n.name) formals.now ≡ map (λ f. f.name) g.now.formals }
+    requires made { made ≡ length memory.now }
+    requires few { made ≤ 2 ^ 62 }
+    ensures state { IfOk result (λ room. (out : List ℕ) → state_in g.now w.now out room ≡ make_locals_in p.now site (locals_in g.now.body) (record { vars = look formals.now; memory = memory.now; world = left w.now taken; output = out })) }
+    ensures room { IfOk result (λ room. IsRoom g.now room) }
+{
     let locals = locals_of(g);
     let vars = first_vars(alloc, formals.as_slice(), locals)?;
     let mut room = Room {

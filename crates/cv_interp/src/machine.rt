@@ -1,13 +1,16 @@
 //! The machine.
-ghost use Rattle.std.specs.Prelude.{◌≡◌, ◌+◌, ◌<◌, ℕ, All, IfErr, IfOk, IsOk, IsTrue, OnErr, OnOk, None, false};
+ghost use Rattle.std.specs.Prelude.{◌≡◌, ◌+◌, ◌<◌, ℕ, All, IfErr, IfOk, IsOk, IsTrue, OnErr, OnOk, None, Some, false, slice_get, true};
 ghost use Rattle.cv_core.specs.Limits.{first_limit};
 ghost use Rattle.cv_core.specs.WellFormed.{IsSoundProgram};
 ghost use Rattle.cv_meaning.specs.Run.{run_main};
-ghost use Rattle.cv_interp.specs.Machine.{at_call, end, seen, turn_of as turn_at};
+ghost use Rattle.cv_interp.specs.Machine.{answer_of as answer_in, at_call, end, is_call, seen, turn_of as turn_at};
+ghost use Rattle.cv_interp.specs.Good.{IsGood, Leads, ended_how, is_plain};
+ghost use Rattle.cv_interp.specs.Stack.{stack_of};
+ghost use Rattle.cv_core.specs.Names.{stmts_of as stmts_in};
 ghost use Rattle.cv_interp.specs.Start.{HasFewBytes, IsRefusal, are_mains, start_memory, start_values};
 
 use crate::begin::{Made, StartError, beginning, fit};
-use crate::calls::{Called, call, give, proc_place};
+use crate::calls::{Called, Entered, call, give, proc_place};
 use crate::entering::{Guest, furnished, guest_of, may_enter};
 use crate::leaving::leave;
 use crate::sites::{local_site, stmts_of};
@@ -37,10 +40,9 @@ pub(crate) enum Ended {
     Returned(i32),
 }
 
-/// Runs a program step by step, on a stack of its own. Contracts see the procedures that run and wait, what they
-/// share, and the end.
+/// All that a machine works on.
 #[derive(Drop)]
-pub struct Machine<'a> {
+pub(crate) struct Core<'a> {
     alloc: Global,
     program: &'a Program,
     waiting: Vec<Waiting<'a>>,
@@ -48,6 +50,13 @@ pub struct Machine<'a> {
     at: usize,
     store: Store,
     ended: Option<Ended>,
+}
+
+/// Runs a program step by step, on a stack of its own. Contracts see the procedures that run and wait, what they
+/// share, and the end.
+#[derive(Drop)]
+pub struct Machine<'a> {
+    core: Core<'a>,
 }
 
 impl<'a> Model for Machine<'a> {
@@ -61,28 +70,203 @@ impl<'a> Model for Machine<'a> {
     ghost coded = { Prim.hlevel (codes, pointer.the_row.coded, term.the_row.coded) };
 
     ghost use Rattle.cv_interp.specs.Stack.{stack_of};
+    ghost use Rattle.cv_interp.specs.Good.{IsGood};
 
-    ghost view = { stack_of };
+    ghost view = { λ m. stack_of m.core };
+
+    ghost invariant = { λ m. IsGood m.core };
 }
 
-fn turn_of(end: Ended) -> Turn {
+fn turn_of(end: Ended) -> Turn
+    ensures { result ≡ turn_at (ended_how end) }
+{
     match end {
         Ended::Error { kind, proc, line } => Turn::Error { kind, proc, line },
         Ended::Returned(z) => Turn::Returned(z),
     }
 }
 
-fn run_end_of(end: Ended) -> RunEnd {
+fn run_end_of(end: Ended) -> RunEnd
+    ensures { result ≡ ended_how end }
+{
     match end {
         Ended::Error { kind, proc, line } => RunEnd::Error { kind, proc, line },
         Ended::Returned(z) => RunEnd::Returned(z),
     }
 }
 
-fn answer_of(answer: Option<Value>) -> i32 {
+fn answer_of(answer: Option<Value>) -> i32
+    ensures { result ≡ answer_in answer }
+{
     match answer {
         Some(Value::Int(z)) => z,
         _ => 0,
+    }
+}
+
+/// Ends a machine by an error of the statement that runs.
+fn fail(core: &mut Core, kind: ErrKind, line: u32) -> Turn
+    ensures answer { result ≡ Turn.Error kind core.old.running.number line }
+    ensures core { core.new ≡ record core.old { ended = Some (Ended.Error kind core.old.running.number line) } }
+{
+    let end = Ended::Error {
+        kind,
+        proc: core.running.number,
+        line,
+    };
+    core.ended = Some(end);
+    turn_of(end)
+}
+
+/// Takes a step that is no call and no return.
+fn go(core: &mut Core, stmt: &Stmt) -> Turn
+    requires good { IsGood core.old }
+    requires on { core.old.ended ≡ None }
+    requires at { slice_get (stmts_in core.old.running.proc.now.body) core.old.at ≡ Some stmt.now }
+    requires plain { is_plain stmt.now.form ≡ true }
+    ensures good { IsGood core.new }
+    ensures led { Leads (stack_of core.old) result (stack_of core.new) }
+{
+    match step(
+        core.program,
+        &core.running,
+        core.at,
+        &stmt.form,
+        &mut core.store,
+    ) {
+        Err(kind) => fail(core, kind, stmt.line),
+        Ok(at) => {
+            core.at = at;
+            Turn::On
+        }
+    }
+}
+
+/// Runs a procedure that was entered; its caller waits. There is room for one more that waits.
+fn enter<'a>(core: &mut Core<'a>, entered: Entered<'a>) -> Result<Turn, AllocError> {
+    let activation = mem::replace(&mut core.running, entered.callee);
+    let at = mem::replace(&mut core.at, 0);
+    core.waiting.push(Waiting {
+        activation,
+        at,
+        vars: entered.vars,
+    })?;
+    Ok(Turn::On)
+}
+
+/// Takes a step of a call.
+fn go_into(
+    core: &mut Core,
+    into: &Option<Bytes>,
+    f: &[u8],
+    args: &List<AnyOperand>,
+    line: u32,
+) -> Result<Turn, AllocError> {
+    core.waiting.reserve(1)?;
+    match call(
+        core.alloc,
+        core.program,
+        &core.running,
+        core.at,
+        into,
+        f,
+        args,
+        &mut core.store,
+    )? {
+        Called::Errs(kind) => Ok(fail(core, kind, line)),
+        Called::Goes => {
+            core.at += 1;
+            Ok(Turn::On)
+        }
+        Called::Enters(entered) => enter(core, entered),
+    }
+}
+
+/// The destination of the call at a statement.
+fn destination(f: &Proc, at: usize) -> Option<&Bytes> {
+    match stmts_of(f).get(at) {
+        None => None,
+        Some(stmt) => match &stmt.form {
+            Form::Call { into, .. } => into.as_ref(),
+            _ => None,
+        },
+    }
+}
+
+/// Goes on in the procedure that waits, or ends the machine where none does.
+fn go_back(core: &mut Core, answer: Option<Value>) -> Turn {
+    match core.waiting.pop() {
+        None => {
+            let end = Ended::Returned(answer_of(answer));
+            core.ended = Some(end);
+            turn_of(end)
+        }
+        Some(waiting) => {
+            let Waiting {
+                activation,
+                at,
+                vars,
+            } = waiting;
+            core.store.room.vars = vars;
+            core.running = activation;
+            let into = destination(core.running.proc, at);
+            give(
+                core.program,
+                core.running.proc,
+                into,
+                answer,
+                &mut core.store.room.vars,
+            );
+            core.at = at + 1;
+            Turn::On
+        }
+    }
+}
+
+/// Takes a step of a return.
+fn go_out(core: &mut Core, e: &Option<AnyOperand>, line: u32) -> Turn {
+    let answer = match e {
+        None => None,
+        Some(e) => Some(any_value(core.running.proc, core.store.room.vars.as_slice(), e)),
+    };
+    match leave(core.program, &core.running, answer, &mut core.store) {
+        Err(kind) => fail(core, kind, line),
+        Ok(()) => go_back(core, answer),
+    }
+}
+
+/// Takes a step of a statement.
+fn take_stmt(core: &mut Core, stmt: &Stmt) -> Result<Turn, AllocError>
+    requires good { IsGood core.old }
+    requires on { core.old.ended ≡ None }
+    requires at { slice_get (stmts_in core.old.running.proc.now.body) core.old.at ≡ Some stmt.now }
+    ensures good { IsGood core.new }
+    ensures led { IfOk result (λ t. Leads (stack_of core.old) t (stack_of core.new)) }
+    ensures unchanged { OnErr result (stack_of core.new ≡ stack_of core.old) }
+    ensures steady { is_call stmt.now.form ≡ false → IsOk result }
+{
+    match &stmt.form {
+        Form::Call { into, f, args } => go_into(core, into, f.as_slice(), args, stmt.line),
+        Form::Return(e) => Ok(go_out(core, e, stmt.line)),
+        _ => Ok(go(core, stmt)),
+    }
+}
+
+/// Takes a step.
+fn take(core: &mut Core) -> Result<Turn, AllocError>
+    requires { IsGood core.old }
+    ensures good { IsGood core.new }
+    ensures led { IfOk result (λ t. Leads (stack_of core.old) t (stack_of core.new)) }
+    ensures unchanged { OnErr result (stack_of core.new ≡ stack_of core.old) }
+    ensures steady { at_call (stack_of core.old) ≡ false → IsOk result }
+{
+    if let Some(end) = core.ended {
+        return Ok(turn_of(end));
+    }
+    let proc: &Proc = core.running.proc;
+    match stmts_of(proc).get(core.at) {
+        None => Ok(Turn::On),
+        Some(stmt) => take_stmt(core, stmt),
     }
 }
 
@@ -157,7 +341,7 @@ impl<'a> Machine<'a> {
                 line: main.line,
             })
         };
-        Ok(Machine {
+        let core = Core {
             alloc,
             program,
             waiting: Vec::new(alloc),
@@ -169,114 +353,8 @@ impl<'a> Machine<'a> {
                 output: Vec::new(alloc),
             },
             ended,
-        })
-    }
-
-    fn fail(&mut self, kind: ErrKind, line: u32) -> Turn {
-        let end = Ended::Error {
-            kind,
-            proc: self.running.number,
-            line,
         };
-        self.ended = Some(end);
-        turn_of(end)
-    }
-
-    fn go(&mut self, form: &Form, line: u32) -> Turn {
-        match step(self.program, &self.running, self.at, form, &mut self.store) {
-            Err(kind) => self.fail(kind, line),
-            Ok(at) => {
-                self.at = at;
-                Turn::On
-            }
-        }
-    }
-
-    fn call(
-        &mut self,
-        into: &Option<Bytes>,
-        f: &[u8],
-        args: &List<AnyOperand>,
-        line: u32,
-    ) -> Result<Turn, AllocError> {
-        self.waiting.reserve(1)?;
-        match call(
-            self.alloc,
-            self.program,
-            &self.running,
-            self.at,
-            into,
-            f,
-            args,
-            &mut self.store,
-        )? {
-            Called::Errs(kind) => Ok(self.fail(kind, line)),
-            Called::Goes => {
-                self.at += 1;
-                Ok(Turn::On)
-            }
-            Called::Enters(entered) => {
-                let activation = mem::replace(&mut self.running, entered.callee);
-                let at = mem::replace(&mut self.at, 0);
-                self.waiting.push(Waiting {
-                    activation,
-                    at,
-                    vars: entered.vars,
-                })?;
-                Ok(Turn::On)
-            }
-        }
-    }
-
-    fn go_back(&mut self, answer: Option<Value>) -> Turn {
-        match self.waiting.pop() {
-            None => {
-                let end = Ended::Returned(answer_of(answer));
-                self.ended = Some(end);
-                turn_of(end)
-            }
-            Some(waiting) => {
-                let Waiting {
-                    activation,
-                    at,
-                    vars,
-                } = waiting;
-                self.store.room.vars = vars;
-                self.running = activation;
-                if let Some(stmt) = stmts_of(self.running.proc).get(at) {
-                    if let Form::Call { into, .. } = &stmt.form {
-                        give(
-                            self.program,
-                            self.running.proc,
-                            into,
-                            answer,
-                            &mut self.store.room.vars,
-                        );
-                    }
-                }
-                self.at = at + 1;
-                Turn::On
-            }
-        }
-    }
-
-    fn leave(&mut self, e: &Option<AnyOperand>, line: u32) -> Turn {
-        let answer = match e {
-            None => None,
-            Some(e) => Some(any_value(self.running.proc, self.store.room.vars.as_slice(), e)),
-        };
-        match leave(self.program, &self.running, answer, &mut self.store) {
-            Err(kind) => self.fail(kind, line),
-            Ok(()) => self.go_back(answer),
-        }
-    }
-
-    fn take(&mut self, stmt: &Stmt) -> Result<Turn, AllocError> {
-        match &stmt.form {
-            Form::Call { into, f, args } => self.call(into, f.as_slice(), args, stmt.line),
-            Form::Return(e) => Ok(self.leave(e, stmt.line)),
-            form => Ok(self.go(form, stmt.line)),
-        }
+        Ok(Machine { core })
     }
 
     /// Takes one step; an error is want of memory. After an end it gives the end again.
@@ -286,14 +364,7 @@ impl<'a> Machine<'a> {
         ensures unchanged { OnErr result (self.new ≡ self.old) }
         ensures steady { at_call self.old ≡ false → IsOk result }
     {
-        if let Some(end) = self.ended {
-            return Ok(turn_of(end));
-        }
-        let proc: &Proc = self.running.proc;
-        match stmts_of(proc).get(self.at) {
-            None => Ok(Turn::On),
-            Some(stmt) => self.take(stmt),
-        }
+        take(&mut self.core)
     }
 
     /// Takes at most so many steps; an error is want of memory, at a step that is then left untaken.
@@ -302,7 +373,7 @@ impl<'a> Machine<'a> {
         ensures stands { OnOk result ((n : ℕ) → end self.new n ≡ end self.old (steps + n)) }
         ensures taken { OnErr result ((k : ℕ) × (k < steps) × ((n : ℕ) → end self.new n ≡ end self.old (k + n))) }
     {
-        if let Some(end) = self.ended {
+        if let Some(end) = self.core.ended {
             return Ok(run_end_of(end));
         }
         for _ in 0..steps {
@@ -321,6 +392,6 @@ impl<'a> Machine<'a> {
     pub fn output(&self) -> &[u8]
         ensures { result.now ≡ (end self.now 0).output }
     {
-        self.store.output.as_slice()
+        self.core.store.output.as_slice()
     }
 }

@@ -1,0 +1,13 @@
+pub mod Env
+pub mod Dropped
+pub mod Live
+pub mod Places
+pub mod Memories
+pub mod Kinded
+pub mod Leads
+pub mod Typed
+pub mod Addressed
+pub mod Stepped
+pub mod Sums
+pub mod Bound
+pub mod Ranged
