@@ -11,3 +11,4 @@ pub mod Stepped
 pub mod Sums
 pub mod Bound
 pub mod Ranged
+pub mod Begun

@@ -9,3 +9,5 @@ pub mod Takes
 pub mod Sound
 pub mod Entered
 pub mod Good
+pub mod Called
+pub mod Made

@@ -1,6 +1,13 @@
 //! Where a run of main begins.
+ghost use Rattle.std.specs.Prelude.{◌≡◌, ◌+◌, ◌++◌, ◌∷◌, [], ◌≤◌, ◌<◌, ◌^◌, All, IfOk, OnOk, length, replicate};
+ghost use Rattle.cv_meaning.specs.Clean.{literal_objects};
+ghost use Rattle.cv_meaning.specs.Memory.{IsShort};
+ghost use Rattle.cv_meaning.specs.declared.memory.Body.TheVariants.{Buffer};
+ghost use Rattle.cv_interp.specs.Made.{IsMade};
+ghost use Rattle.cv_interp.specs.Start.{HasFewBytes, arg_values, fit as fit_in, fits_kind as fits_kind_in, global_body as global_body_in, global_objects, out_objects, start_memory, start_values};
+
 use crate::entering::make;
-use cv_core::{Bytes, Formal, GlobalBody, GlobalDecl, Literal, Program, VarKind};
+use cv_core::{Bytes, Formal, GlobalBody, GlobalDecl, List, Literal, Program, VarKind};
 use cv_meaning::{Arg, Body, Mem, Ptr, Value};
 use std::alloc::{AllocError, Global};
 use thiserror::Error;
@@ -25,7 +32,9 @@ impl From<AllocError> for StartError {
     }
 }
 
-fn fits_kind(kind: VarKind, arg: &Arg) -> bool {
+fn fits_kind(kind: VarKind, arg: &Arg) -> bool
+    ensures { result ≡ fits_kind_in kind arg.now }
+{
     match (kind, arg) {
         (VarKind::Int, Arg::Int(_)) => true,
         (VarKind::Ptr, Arg::Text(_)) => true,
@@ -34,11 +43,19 @@ fn fits_kind(kind: VarKind, arg: &Arg) -> bool {
 }
 
 /// Whether there is one argument for each formal, of its kind.
-pub(crate) fn fit(formals: &[Formal], args: &[Arg]) -> bool {
-    match (formals, args) {
-        ([], []) => true,
-        ([f, others @ ..], [a, rest @ ..]) => fits_kind(f.kind, a) && fit(others, rest),
-        _ => false,
+pub(crate) fn fit(formals: &[Formal], args: &[Arg]) -> bool
+    ensures { result ≡ fit_in formals.now args.now }
+{
+    match formals {
+        [] => args.is_empty(),
+        [f, others @ ..] => match args {
+            [] => false,
+            [a, rest @ ..] => {
+                let here = fits_kind(f.kind, a);
+                let later = fit(others, rest);
+                here && later
+            }
+        },
     }
 }
 
@@ -49,19 +66,31 @@ pub(crate) struct Made {
     pub(crate) count: u64,
 }
 
-fn add(made: &mut Made, site: u32, body: &Body) -> Result<u64, AllocError> {
+fn add(made: &mut Made, site: u32, body: &Body) -> Result<u64, AllocError>
+    requires short { IsShort body.now }
+    requires made { IsMade made.old }
+    ensures object { IfOk result (λ object. object ≡ length made.old.memory) }
+    ensures memory { OnOk result (made.new.memory ≡ made.old.memory ++ record { site = site; live = true; body = body.now } ∷ []) }
+    ensures made { OnOk result (IsMade made.new) }
+{
     make(&mut made.memory, &mut made.count, site, body)
 }
 
-fn zeros(alloc: Global, count: u32) -> Result<Vec<u8>, AllocError> {
+#[tactic(auto, using(crate::proofs::Begun::replicate_more))]
+fn zeros(alloc: Global, count: u32) -> Result<Vec<u8>, AllocError>
+    ensures { IfOk result (λ bytes. bytes.items ≡ replicate count 0) }
+{
     let mut bytes = Vec::new(alloc);
-    for _ in 0..count {
+    for _i in 0..count {
         bytes.push(0)?;
     }
     Ok(bytes)
 }
 
-fn global_body(alloc: Global, body: GlobalBody) -> Result<Body, AllocError> {
+fn global_body(alloc: Global, body: GlobalBody) -> Result<Body, AllocError>
+    ensures value { IfOk result (λ b. b ≡ global_body_in body) }
+    ensures short { IfOk result (λ b. IsShort b) }
+{
     match body {
         GlobalBody::Buffer(size) => {
             if size > 2147483647 {
@@ -75,12 +104,18 @@ fn global_body(alloc: Global, body: GlobalBody) -> Result<Body, AllocError> {
 }
 
 /// Makes the globals, and answers the next site.
+#[tactic(auto, using(crate::proofs::Begun::more_globals))]
 fn make_globals(
     alloc: Global,
     globals: &[GlobalDecl],
     site: u32,
     made: &mut Made,
-) -> Result<u32, AllocError> {
+) -> Result<u32, AllocError>
+    requires { IsMade made.old }
+    ensures site { IfOk result (λ next. next ≡ site + length globals.now) }
+    ensures memory { OnOk result (made.new.memory ≡ made.old.memory ++ global_objects site globals.now) }
+    ensures made { OnOk result (IsMade made.new) }
+{
     match globals {
         [] => Ok(site),
         [first, rest @ ..] => {
@@ -95,18 +130,28 @@ fn make_globals(
 }
 
 /// A buffer of the bytes and a zero byte.
-fn ended(alloc: Global, bytes: &[u8]) -> Result<Body, AllocError> {
+fn ended(alloc: Global, bytes: &[u8]) -> Result<Body, AllocError>
+    requires { length bytes.now ≤ 1048576 }
+    ensures value { IfOk result (λ b. b ≡ Buffer (bytes.now ++ 0 ∷ [])) }
+    ensures short { IfOk result (λ b. IsShort b) }
+{
     let mut text = Vec::from_slice(alloc, bytes)?;
     text.push(0)?;
     Ok(Body::Buffer(Bytes::from_vec(text)))
 }
 
+/// Makes the literals.
+#[tactic(auto, using(crate::proofs::Begun::more_literals))]
 fn make_literals(
     alloc: Global,
     literals: &[Literal],
     site: u32,
     made: &mut Made,
-) -> Result<(), AllocError> {
+) -> Result<(), AllocError>
+    requires { IsMade made.old }
+    ensures memory { OnOk result (made.new.memory ≡ made.old.memory ++ literal_objects site literals.now) }
+    ensures made { OnOk result (IsMade made.new) }
+{
     match literals {
         [] => Ok(()),
         [first, rest @ ..] => {
@@ -124,34 +169,49 @@ fn make_literals(
 }
 
 /// Makes the buffers of the texts, and puts the values of the arguments behind others.
+#[tactic(auto, using(crate::proofs::Begun::more_int, crate::proofs::Begun::more_text, crate::proofs::Begun::more_outs, crate::proofs::Begun::first_outs))]
 fn make_args(
     alloc: Global,
     args: &[Arg],
     made: &mut Made,
-    values: &mut Vec<Value>,
-) -> Result<(), AllocError> {
+    values: &mut List<Value>,
+) -> Result<(), AllocError>
+    requires made { IsMade made.old }
+    requires texts { All HasFewBytes args.now }
+    ensures memory { OnOk result (made.new.memory ≡ made.old.memory ++ out_objects args.now) }
+    ensures values { OnOk result (values.new ≡ values.old ++ arg_values (length made.old.memory) args.now) }
+    ensures made { OnOk result (IsMade made.new) }
+{
     match args {
         [] => Ok(()),
-        [Arg::Int(z), rest @ ..] => {
-            values.push(Value::Int(*z))?;
-            make_args(alloc, rest, made, values)
-        }
-        [Arg::Text(bytes), rest @ ..] => {
-            let body = ended(alloc, bytes.as_slice())?;
-            let object = add(made, 0, &body)?;
-            values.push(Value::Ptr(Ptr::At { object, offset: 0 }))?;
-            make_args(alloc, rest, made, values)
-        }
+        [first, rest @ ..] => match first {
+            Arg::Int(z) => {
+                values.push(Value::Int(*z))?;
+                make_args(alloc, rest, made, values)
+            }
+            Arg::Text(bytes) => {
+                let body = ended(alloc, bytes.as_slice())?;
+                let object = add(made, 0, &body)?;
+                values.push(Value::Ptr(Ptr::At { object, offset: 0 }))?;
+                make_args(alloc, rest, made, values)
+            }
+        },
     }
 }
 
 /// The memory at the start, and the values of main's formals.
+#[tactic(auto, using(crate::proofs::Begun::start_length))]
 pub(crate) fn beginning(
     alloc: Global,
     p: &Program,
     args: &[Arg],
-    values: &mut Vec<Value>,
-) -> Result<Made, AllocError> {
+    values: &mut List<Value>,
+) -> Result<Made, AllocError>
+    requires { All HasFewBytes args.now }
+    ensures memory { IfOk result (λ made. made.memory ≡ start_memory p.now args.now) }
+    ensures values { OnOk result (values.new ≡ values.old ++ start_values p.now args.now) }
+    ensures made { IfOk result (λ made. IsMade made) }
+{
     let mut made = Made {
         memory: Mem::new(alloc),
         count: 0,

@@ -1,5 +1,5 @@
 //! One step of a return.
-ghost use Rattle.std.specs.Prelude.{◌≡◌, ◌<◌, ◌≤◌, ◌^◌, Err, IfErr, Ok, OnOk, length, tt};
+ghost use Rattle.std.specs.Prelude.{◌≡◌, ◌<◌, ◌≤◌, ◌^◌, Err, IfErr, Ok, OnOk, length};
 ghost use Rattle.cv_meaning.specs.Call.{Errs, Leaves, is_own as is_own_in, leave as leave_in, left_memory, returnable as returnable_in, scene_of};
 ghost use Rattle.cv_meaning.specs.Contract.{ensures_hold};
 ghost use Rattle.cv_meaning.specs.Few.{AreFew};

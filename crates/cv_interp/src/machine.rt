@@ -182,13 +182,13 @@ fn go_into(
     }
 }
 
-/// The destination of the call at a statement.
-fn destination(f: &Proc, at: usize) -> Option<&Bytes> {
+/// Gives an answer to the destination of the call at a statement.
+fn give_at(p: &Program, f: &Proc, at: usize, answer: Option<Value>, room: &mut Room) {
     match stmts_of(f).get(at) {
-        None => None,
+        None => {}
         Some(stmt) => match &stmt.form {
-            Form::Call { into, .. } => into.as_ref(),
-            _ => None,
+            Form::Call { into, .. } => give(p, f, into, answer, room),
+            _ => {}
         },
     }
 }
@@ -209,13 +209,12 @@ fn go_back(core: &mut Core, answer: Option<Value>) -> Turn {
             } = waiting;
             core.store.room.vars = vars;
             core.running = activation;
-            let into = destination(core.running.proc, at);
-            give(
+            give_at(
                 core.program,
                 core.running.proc,
-                into,
+                at,
                 answer,
-                &mut core.store.room.vars,
+                &mut core.store.room,
             );
             core.at = at + 1;
             Turn::On
@@ -300,7 +299,7 @@ impl<'a> Machine<'a> {
         let Ok(number) = u32::try_from(i) else {
             return Err(StartError::Memory);
         };
-        let mut values = Vec::new(alloc);
+        let mut values = List::new(alloc);
         let Made { memory, count } = beginning(alloc, program, args, &mut values)?;
         let guest = guest_of(alloc, program, main, values.as_slice(), &memory, count)?;
         let fits = may_enter(program, main, &guest, &memory);
