@@ -12,3 +12,5 @@ pub mod Sums
 pub mod Bound
 pub mod Ranged
 pub mod Begun
+pub mod Going
+pub mod Limited

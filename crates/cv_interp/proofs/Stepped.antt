@@ -218,10 +218,10 @@ memory_next P f s m i a = record {
 
 -- the state at the next statement
 abbrev pub Nexts : Program → Frame → State → Next → Type 0
-Nexts P f s next = All_ok next (λ r. IsNext P f s r.1)
+Nexts P f s next = All_ok next (λ (r : ℕ × State). IsNext P f s r.1)
 
 ranged_next : (P : Program) (f : Frame) (k : ℕ) (x : Name) (z : ℤ) (s : State) → IsState P f s → is_cell_kind (kind_of f.proc x) ≡ false → Nexts P f s (ranged P f k x z s)
-ranged_next P f k x z s i plain = unless_all _ _ _ (λ r. IsNext P f s r.1) (λ _. assign_next P f s x z i plain)
+ranged_next P f k x z s i plain = unless_all _ _ _ (λ (r : ℕ × State). IsNext P f s r.1) (λ _. assign_next P f s x z i plain)
 
 jumps_next : (P : Program) (f : Frame) (s t : State) (b : Bool) (to k : ℕ) → IsNext P f s t → Nexts P f s (jumps b to k t)
 jumps_next P f s t true to k h = h

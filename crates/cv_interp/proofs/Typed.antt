@@ -6,6 +6,7 @@ use Rattle.std.proofs.lemmas.Bool.{leb-true, ltb-true}
 use Rattle.std.proofs.lemmas.Slice.Eq.{bytes_eq-Decides}
 use Rattle.cv_core.specs.Names.{Name, kind_of}
 use Rattle.cv_core.specs.declared.faults.ErrKind.{ErrKind}
+use Rattle.cv_core.specs.declared.faults.ErrKind.TheVariants as err
 use Rattle.cv_core.specs.declared.program.Program.{Program}
 use Rattle.cv_core.specs.declared.program.Proc.{Proc}
 use Rattle.cv_core.specs.declared.program.AnyOperand.{AnyOperand}
@@ -24,7 +25,7 @@ use Rattle.cv_meaning.specs.declared.memory.Value.{Value}
 use Rattle.cv_meaning.specs.declared.memory.Value.TheVariants as value
 use Rattle.cv_meaning.specs.Checked.{Checked, ◌>>=◌, unless}
 use Rattle.cv_meaning.specs.Contract.{Env}
-use Rattle.cv_meaning.specs.Memory.{IsShort, Memory, Place, bytes_of, cell_at, cell_held, cell_in, cell_of, get, is_inside, may_change, place, place_at, put, shift, store, with_body, within, writable}
+use Rattle.cv_meaning.specs.Memory.{IsShort, Memory, Place, bytes_of, cell_at, cell_held, cell_in, cell_of, get, is_inside, is_no_literal, may_change, place, place_at, put, shift, store, with_body, within, writable}
 use Rattle.cv_meaning.specs.State.{State, any_value, as_kind, operand_value, pointer, set}
 use Rattle.cv_interp.proofs.Memories.{IsObject, put_keeps, put_memory, set_length}
 use Rattle.cv_interp.specs.Sound.{Fits, IsFit, IsMemory, Keeps, PointsToCell, is_cell_kind}
@@ -146,20 +147,30 @@ bytes_length [] (suc i) y = refl
 bytes_length (x ∷ xs) zero y = refl
 bytes_length (x ∷ xs) (suc i) y = ap suc (bytes_length xs i y)
 
-pub store_after : (m : Memory) (p : Ptr) (byte : ℕ) (permit : Permit) → IsMemory m → All_ok (store m p byte permit) (IsAfter m)
-store_after m p byte permit h =
-    bind_all (place m p) _ (IsPlace m) (IsAfter m) (place_is m p)
-    (λ at (x, is, same). unless_all (is_inside at) _ _ (IsAfter m) (λ inside. unless_all _ _ _ (IsAfter m) (λ _. unless_all (may_change permit at.object) _ _ (IsAfter m) (λ _.
+no_bytes : (b : Body) (i : ℕ) → nat_lt i (length (bytes_of b)) ≡ true → IsSome (cell_in b) → ⊥
+no_bytes (Buffer bytes) i inside c = cc
+no_bytes (Cell v) i inside c = let lt : i < 0 = ltb-true i 0 inside in absurd (omega arith)
+
+byte_after : (m : Memory) (at : Place) (byte : ℕ) → IsMemory m → IsPlace m at → is_inside at ≡ true →
+    IsAfter m (with_body at.object (Buffer (slice_set (bytes_of at.body) at.offset byte)) m)
+byte_after m at byte h (x, is, same) inside =
     after_body m at.object x (Buffer (slice_set (bytes_of at.body) at.offset byte)) h is
     (record {
       short = subst (λ n. n < 2 ^ 31) (sym (bytes_length (bytes_of at.body) at.offset byte)) (subst IsShort same (h.short at.object x is));
       near = λ v e. absurd (cc);
     })
-    (λ c. absurd (no_bytes x.body at.offset (subst (λ (b : Body). nat_lt at.offset (length (bytes_of b)) ≡ true) (sym same) inside) c))))))
-  where
-    no_bytes : (b : Body) (i : ℕ) → nat_lt i (length (bytes_of b)) ≡ true → IsSome (cell_in b) → ⊥
-    no_bytes (Buffer bytes) i inside c = cc
-    no_bytes (Cell v) i inside c = let lt : i < 0 = ltb-true i 0 inside in absurd (omega arith)
+    (λ c. absurd (no_bytes x.body at.offset (subst (λ (b : Body). nat_lt at.offset (length (bytes_of b)) ≡ true) (sym same) inside) c))
+
+written_after : (m n : Memory) (permit : Permit) (o : ℕ) → IsAfter m n → All_ok (writable permit o (Ok n)) (IsAfter m)
+written_after m n permit o h =
+    unless_all (is_no_literal permit o) err.Literal (unless (may_change permit o) err.Modifies (Ok n)) (IsAfter m)
+    (λ _. unless_all (may_change permit o) err.Modifies (Ok n) (IsAfter m) (λ _. h))
+
+pub store_after : (m : Memory) (p : Ptr) (byte : ℕ) (permit : Permit) → IsMemory m → All_ok (store m p byte permit) (IsAfter m)
+store_after m p byte permit h =
+    bind_all (place m p) _ (IsPlace m) (IsAfter m) (place_is m p)
+    (λ at i. unless_all (is_inside at) err.Bounds (writable permit at.object (Ok (with_body at.object (Buffer (slice_set (bytes_of at.body) at.offset byte)) m))) (IsAfter m)
+    (λ inside. written_after m (with_body at.object (Buffer (slice_set (bytes_of at.body) at.offset byte)) m) permit at.object (byte_after m at byte h i inside)))
 
 pub put_after : (m : Memory) (p : Ptr) (v : Value) (permit : Permit) → IsMemory m → IsNear v → All_ok (put m p v permit) (IsAfter m)
 put_after m p v permit h near =

@@ -55,3 +55,24 @@ fn bounded(n: u8) -> u8
 {
     n
 }
+
+#[tactic(auto, using(crate::proofs::Going::go_good))]
+fn going(n: u8) -> u8
+    ensures { result ≡ n }
+{
+    n
+}
+
+#[tactic(auto, using(crate::proofs::Limited::form_written))]
+fn limited(n: u8) -> u8
+    ensures { result ≡ n }
+{
+    n
+}
+
+#[tactic(auto, using(crate::proofs::Begun::start_length))]
+fn begun(n: u8) -> u8
+    ensures { result ≡ n }
+{
+    n
+}
