@@ -29,9 +29,10 @@ use Rattle.cv_interp.specs.Seen.{frame, state}
 use Rattle.cv_interp.specs.Slots.{env_of}
 use Rattle.cv_interp.specs.Sound.{IsState, Keeps}
 use Rattle.cv_interp.specs.Stack.{stack_of, waiting_level}
-use Rattle.cv_interp.specs.Takes.{IsKept}
+use Rattle.cv_interp.specs.Takes.{IsKept, IsReady, IsSmall}
 use Rattle.cv_interp.proofs.Leads as leads
-use Rattle.cv_interp.proofs.Stepped.{IsNext, Nexts, step_sound}
+use Rattle.cv_interp.proofs.Limited.{few_locals, form_written}
+use Rattle.cv_interp.proofs.Stepped.{IsNext, Nexts, ready, step_sound}
 use Rattle.cv_interp.proofs.Typed.{All_ok, fit_keeps}
 
 pub plain_turn : (P : Program) (f : Frame) (k : ℕ) (form : Form) (s : State) → is_plain form ≡ true → turn P f k form s ≡ as_goes (step P f k form s)
@@ -143,3 +144,18 @@ fail_good c e good = record {
   state = good.state;
   waiting = good.waiting;
 }
+
+-- ---- what the step needs
+
+pub go_small : (c : Core) → IsGood c → IsSmall c.running
+go_small c good =
+    let few : length (locals_of c.running.proc.now.body) ≤ 200 = few_locals c.program.now c.running.number c.running.proc.now good.limits good.active.proc in
+    let first : c.running.permit.first ≤ 2 ^ 62 = good.active.first in
+    omega arith
+
+pub go_ready : (c : Core) (st : Stmt) → IsGood c → slice_get (stmts_of c.running.proc.now.body) c.at ≡ Some st →
+    IsReady c.running.proc.now (env_of c.running.proc.now c.store.room.vars.items) c.store.room.memory st.form
+go_ready c st good at =
+    ready c.program.now c.running.proc.now (state c.running.proc.now c.store) st.form
+    (good.program.statements c.running.number c.at c.running.proc.now st good.active.proc at).kinds
+    (form_written c.program.now c.running.number c.at c.running.proc.now st good.written good.active.proc at) good.state.fit

@@ -10,7 +10,10 @@ pub mod Addressed
 pub mod Stepped
 pub mod Sums
 pub mod Bound
-pub mod Ranged
 pub mod Begun
 pub mod Going
 pub mod Limited
+pub mod Arriving
+pub mod Running
+pub mod Calling
+pub mod Making

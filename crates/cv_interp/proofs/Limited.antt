@@ -47,7 +47,7 @@ any_at p [] (suc i) x e at = absurd (cc)
 any_at p (y ∷ ys) zero x e at = let same : y ≡ x = cc in ap p (sym same) ∙ or_first (p y) (list_any p ys) e
 any_at p (y ∷ ys) (suc i) x e at = any_at p ys i x (or_second (p y) (list_any p ys) e) at
 
-inside : {X : Type 0} (xs : List X) (i : ℕ) (x : X) → slice_get xs i ≡ Some x → i < length xs
+pub inside : {X : Type 0} (xs : List X) (i : ℕ) (x : X) → slice_get xs i ≡ Some x → i < length xs
 inside [] zero x e = absurd (cc)
 inside [] (suc i) x e = absurd (cc)
 inside (y ∷ ys) zero x e = omega arith
@@ -91,6 +91,9 @@ few_locals P i f e at =
 
 pub few_globals : (P : Program) → first_limit P ≡ None → length P.globals ≤ 256
 few_globals P e = ltb-false 256 (length P.globals) (none_at (is_passed P) tested 1 limit.Globals e refl)
+
+pub few_literals : (P : Program) → first_limit P ≡ None → length P.literals ≤ 1024
+few_literals P e = ltb-false 1024 (length P.literals) (none_at (is_passed P) tested 2 limit.Literals e refl)
 
 -- ---- the grammar
 

@@ -1,11 +1,11 @@
 //! Entering a procedure.
-ghost use Rattle.std.specs.Prelude.{◌≡◌, ◌∷◌, [], ◌++◌, ◌<◌, ◌≤◌, ◌^◌, ℕ, IfOk, List, OnErr, OnOk, false, length, map, replicate, true};
+ghost use Rattle.std.specs.Prelude.{◌≡◌, ◌∷◌, [], ◌++◌, ◌<◌, ◌≤◌, ◌^◌, ℕ, IfOk, List, OnErr, OnOk, false, length, map, replicate, suc, true};
 ghost use Rattle.cv_core.specs.Names.{locals_of as locals_in};
 ghost use Rattle.cv_meaning.specs.Call.{entered, may_enter as may_enter_in};
 ghost use Rattle.cv_meaning.specs.Few.{AreFew};
 ghost use Rattle.cv_meaning.specs.Look.{look};
 ghost use Rattle.cv_meaning.specs.Memory.{IsShort};
-ghost use Rattle.cv_meaning.specs.State.{fresh_bytes as fresh_bytes_in, make_local, make_locals as make_locals_in, spend, with_object};
+ghost use Rattle.cv_meaning.specs.State.{fresh_bytes as fresh_bytes_in, make_local, make_locals as make_locals_in, next_site, spend, with_object};
 ghost use Rattle.cv_interp.specs.Entered.{AreVariables, IsRoom, arguments, arrived};
 ghost use Rattle.cv_interp.specs.Seen.{left, state_in};
 ghost use Rattle.cv_interp.specs.Slots.{env_of, is_variable, slot_names, variables_of};
@@ -94,7 +94,9 @@ pub(crate) fn guest_of(
     memory: &Mem,
     made: u64,
 ) -> Result<Guest, AllocError>
-    requires { made ≡ length memory.now }
+    requires made { made ≡ length memory.now }
+    requires globals { length p.now.globals ≤ 256 }
+    requires literals { length p.now.literals ≤ 1024 }
     ensures arrived { IfOk result (λ guest. (i : ℕ) → arrived i g.now guest memory.now ≡ entered p.now i g.now args.now memory.now) }
     ensures names { IfOk result (λ guest. map (λ n. n.name) guest.formals ≡ map (λ f. f.name) g.now.formals) }
 {
@@ -151,7 +153,22 @@ fn variable_count(locals: &[Local]) -> usize
     }
 }
 
+/// Puts the values of the formals behind others.
+#[tactic(auto, using(crate::proofs::Making::more_values))]
+fn put_values(vars: &mut Vec<Value>, formals: &[NamedValue]) -> Result<(), AllocError>
+    ensures { OnOk result (vars.new.items ≡ vars.old.items ++ map (λ f. f.value) formals.now) }
+{
+    match formals {
+        [] => Ok(()),
+        [first, rest @ ..] => {
+            vars.push(first.value)?;
+            put_values(vars, rest)
+        }
+    }
+}
+
 /// Puts so many wild pointers behind others.
+#[tactic(auto, using(crate::proofs::Making::more_wild))]
 fn put_wild(vars: &mut Vec<Value>, count: usize) -> Result<(), AllocError>
     ensures { OnOk result (vars.new.items ≡ vars.old.items ++ replicate count (Value.Ptr Ptr.Wild)) }
 {
@@ -170,17 +187,26 @@ fn first_vars(
 ) -> Result<Vec<Value>, AllocError>
     ensures { IfOk result (λ vars. vars.items ≡ map (λ f. f.value) formals.now ++ replicate (length (variables_of locals.now)) (Value.Ptr Ptr.Wild)) }
 {
-    let mut vars = formals.iter().map(|f| f.value).collect(alloc)?;
+    let mut vars = Vec::new(alloc);
+    put_values(&mut vars, formals)?;
     let count = variable_count(locals);
     put_wild(&mut vars, count)?;
     Ok(vars)
 }
 
 /// Makes a local variable: of a number a fresh one, of a pointer a wild one.
-fn make_variable(p: &Program, g: &Proc, w: &World, x: &[u8], kind: VarKind, room: &mut Room)
+fn make_variable(
+    p: &Program,
+    g: &Proc,
+    w: &World,
+    _site: u32,
+    x: &[u8],
+    kind: VarKind,
+    room: &mut Room,
+)
     requires slot { HasSlot g.now x.now }
     requires room { IsRoom g.now room.old }
-    ensures state { (site : ℕ) (out : List ℕ) → state_in g.now w.now out room.new ≡ make_local p.now site x.now (LocalBody.Var kind) (state_in g.now w.now out room.old) }
+    ensures state { state_in g.now w.now [] room.new ≡ make_local p.now _site x.now (LocalBody.Var kind) (state_in g.now w.now [] room.old) }
     ensures room { IsRoom g.now room.new }
 {
     match kind {
@@ -200,6 +226,7 @@ fn make_variable(p: &Program, g: &Proc, w: &World, x: &[u8], kind: VarKind, room
 }
 
 /// Makes a buffer of fresh bytes.
+#[tactic(auto, using(crate::proofs::Arriving::bytes_length))]
 pub(crate) fn make_buffer(
     alloc: Global,
     g: &Proc,
@@ -211,7 +238,7 @@ pub(crate) fn make_buffer(
     requires short { size < 2 ^ 31 }
     requires room { IsRoom g.now room.old }
     ensures object { IfOk result (λ object. object ≡ length room.old.memory) }
-    ensures state { OnOk result ((out : List ℕ) → state_in g.now w.now out room.new ≡ spend size (with_object (record { site = site; live = true; body = Buffer (fresh_bytes_in size (left w.now room.old.taken)) }) (state_in g.now w.now out room.old))) }
+    ensures state { OnOk result (state_in g.now w.now [] room.new ≡ spend size (with_object (record { site = site; live = true; body = Buffer (fresh_bytes_in size (left w.now room.old.taken)) }) (state_in g.now w.now [] room.old))) }
     ensures room { OnOk result (IsRoom g.now room.new) }
     ensures err { OnErr result (room.new ≡ room.old) }
 {
@@ -235,7 +262,7 @@ fn make_object(
 ) -> Result<(), AllocError>
     requires object { is_variable body ≡ false }
     requires room { IsRoom g.now room.old }
-    ensures state { OnOk result ((out : List ℕ) → state_in g.now w.now out room.new ≡ make_local p.now site x.now body (state_in g.now w.now out room.old)) }
+    ensures state { OnOk result (state_in g.now w.now [] room.new ≡ make_local p.now site x.now body (state_in g.now w.now [] room.old)) }
     ensures room { OnOk result (IsRoom g.now room.new) }
 {
     match body {
@@ -259,7 +286,55 @@ fn make_object(
     Ok(())
 }
 
+/// Makes one local, and answers the site of the next object.
+fn make_one(
+    alloc: Global,
+    p: &Program,
+    g: &Proc,
+    w: &World,
+    site: u32,
+    l: &Local,
+    room: &mut Room,
+) -> Result<u32, AllocError>
+    requires slot { is_variable l.now.body ≡ true → HasSlot g.now l.now.name }
+    requires room { IsRoom g.now room.old }
+    ensures next { IfOk result (λ next. next ≡ next_site site l.now.body) }
+    ensures state { OnOk result (state_in g.now w.now [] room.new ≡ make_local p.now site l.now.name l.now.body (state_in g.now w.now [] room.old)) }
+    ensures room { OnOk result (IsRoom g.now room.new) }
+{
+    let x = l.name.as_slice();
+    match l.body {
+        LocalBody::Var(kind) => {
+            make_variable(p, g, w, site, x, kind, room);
+            Ok(site)
+        }
+        LocalBody::Buffer(size) => {
+            make_object(alloc, p, g, w, site, x, LocalBody::Buffer(size), room)?;
+            next_number(site)
+        }
+        LocalBody::PointerCell => {
+            make_object(alloc, p, g, w, site, x, LocalBody::PointerCell, room)?;
+            next_number(site)
+        }
+        LocalBody::IntCell => {
+            make_object(alloc, p, g, w, site, x, LocalBody::IntCell, room)?;
+            next_number(site)
+        }
+    }
+}
+
+/// The next number; an error where 32 bits don't hold it.
+fn next_number(n: u32) -> Result<u32, AllocError>
+    ensures { IfOk result (λ next. next ≡ suc n) }
+{
+    match n.checked_add(1) {
+        None => Err(AllocError),
+        Some(next) => Ok(next),
+    }
+}
+
 /// Makes the locals in the order in which they are declared.
+#[tactic(auto, using(crate::proofs::Making::more_locals))]
 fn make_locals(
     alloc: Global,
     p: &Program,
@@ -271,24 +346,15 @@ fn make_locals(
 ) -> Result<(), AllocError>
     requires variables { AreVariables g.now locals.now }
     requires room { IsRoom g.now room.old }
-    ensures state { OnOk result ((out : List ℕ) → state_in g.now w.now out room.new ≡ make_locals_in p.now site locals.now (state_in g.now w.now out room.old)) }
+    ensures state { OnOk result (state_in g.now w.now [] room.new ≡ make_locals_in p.now site locals.now (state_in g.now w.now [] room.old)) }
     ensures room { OnOk result (IsRoom g.now room.new) }
 {
     match locals {
         [] => Ok(()),
-        [first, rest @ ..] => match first.body {
-            LocalBody::Var(kind) => {
-                make_variable(p, g, w, first.name.as_slice(), kind, room);
-                make_locals(alloc, p, g, w, site, rest, room)
-            }
-            body => {
-                make_object(alloc, p, g, w, site, first.name.as_slice(), body, room)?;
-                match site.checked_add(1) {
-                    None => Err(AllocError),
-                    Some(next) => make_locals(alloc, p, g, w, next, rest, room),
-                }
-            }
-        },
+        [first, rest @ ..] => {
+            let next = make_one(alloc, p, g, w, site, first, room)?;
+            make_locals(alloc, p, g, w, next, rest, room)
+        }
     }
 }
 
@@ -308,7 +374,7 @@ pub(crate) fn furnished(
     requires names { map (λ n. n.name) formals.now ≡ map (λ f. f.name) g.now.formals }
     requires made { made ≡ length memory.now }
     requires few { made ≤ 2 ^ 62 }
-    ensures state { IfOk result (λ room. (out : List ℕ) → state_in g.now w.now out room ≡ make_locals_in p.now site (locals_in g.now.body) (record { vars = look formals.now; memory = memory.now; world = left w.now taken; output = out })) }
+    ensures state { IfOk result (λ room. state_in g.now w.now [] room ≡ make_locals_in p.now site (locals_in g.now.body) (record { vars = look formals.now; memory = memory.now; world = left w.now taken; output = [] })) }
     ensures room { IfOk result (λ room. IsRoom g.now room) }
 {
     let locals = locals_of(g);

@@ -1,5 +1,5 @@
 //! The machine.
-ghost use Rattle.std.specs.Prelude.{◌≡◌, ◌+◌, ◌<◌, ℕ, All, IfErr, IfOk, IsOk, IsTrue, OnErr, OnOk, None, Some, false, slice_get, true};
+ghost use Rattle.std.specs.Prelude.{◌≡◌, ◌+◌, ◌<◌, ◌++◌, ◌∷◌, [], ℕ, vec_len, vec_capacity, All, IfErr, IfOk, IsOk, IsTrue, OnErr, OnOk, None, Some, false, slice_get, true};
 ghost use Rattle.cv_core.specs.Limits.{first_limit};
 ghost use Rattle.cv_core.specs.WellFormed.{IsSoundProgram};
 ghost use Rattle.cv_meaning.specs.Run.{run_main};
@@ -127,6 +127,7 @@ fn go(core: &mut Core, stmt: &Stmt) -> Turn
     ensures good { IsGood core.new }
     ensures led { Leads (stack_of core.old) result (stack_of core.new) }
 {
+    let _count = stmts_of(core.running.proc).len();
     match step(
         core.program,
         &core.running,
@@ -143,15 +144,23 @@ fn go(core: &mut Core, stmt: &Stmt) -> Turn
 }
 
 /// Runs a procedure that was entered; its caller waits. There is room for one more that waits.
-fn enter<'a>(core: &mut Core<'a>, entered: Entered<'a>) -> Result<Turn, AllocError> {
-    let activation = mem::replace(&mut core.running, entered.callee);
+fn enter<'a>(core: &mut Core<'a>, entered: Entered<'a>)
+    requires { vec_len core.old.waiting < vec_capacity core.old.waiting }
+    ensures waiting { core.new.waiting.items ≡ core.old.waiting.items ++ record { activation = core.old.running; at = core.old.at; vars = entered.vars } ∷ [] }
+    ensures running { core.new.running ≡ entered.callee }
+    ensures at { core.new.at ≡ 0 }
+    ensures rest { (core.new.program ≡ core.old.program) × (core.new.store ≡ core.old.store) × (core.new.ended ≡ core.old.ended) }
+{
+    let Entered { callee, vars } = entered;
+    let activation = mem::replace(&mut core.running, callee);
     let at = mem::replace(&mut core.at, 0);
-    core.waiting.push(Waiting {
-        activation,
-        at,
-        vars: entered.vars,
-    })?;
-    Ok(Turn::On)
+    core.waiting
+        .push(Waiting {
+            activation,
+            at,
+            vars,
+        })
+        .unwrap();
 }
 
 /// Takes a step of a call.
@@ -178,7 +187,10 @@ fn go_into(
             core.at += 1;
             Ok(Turn::On)
         }
-        Called::Enters(entered) => enter(core, entered),
+        Called::Enters(entered) => {
+            enter(core, entered);
+            Ok(Turn::On)
+        }
     }
 }
 
@@ -375,7 +387,7 @@ impl<'a> Machine<'a> {
         if let Some(end) = self.core.ended {
             return Ok(run_end_of(end));
         }
-        for _ in 0..steps {
+        for _i in 0..steps {
             match self.step()? {
                 Turn::On => {}
                 Turn::Error { kind, proc, line } => {

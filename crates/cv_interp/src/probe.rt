@@ -76,3 +76,24 @@ fn begun(n: u8) -> u8
 {
     n
 }
+
+#[tactic(auto, using(crate::proofs::Arriving::locals_entered))]
+fn arriving(n: u8) -> u8
+    ensures { result ≡ n }
+{
+    n
+}
+
+#[tactic(auto, using(crate::proofs::Running::more_steps))]
+fn running(n: u8) -> u8
+    ensures { result ≡ n }
+{
+    n
+}
+
+#[tactic(auto, using(crate::proofs::Calling::malloc_later))]
+fn calling(n: u8) -> u8
+    ensures { result ≡ n }
+{
+    n
+}

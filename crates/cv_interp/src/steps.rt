@@ -1,5 +1,5 @@
 //! One step of a statement that is no call and no return.
-ghost use Rattle.std.specs.Prelude.{◌≡◌, ◌+◌, ◌<◌, ◌^◌, ◌≤ℤ◌, Err, IfErr, IfOk, Ok, length, ◌≤◌, if◌then◌else◌, pos};
+ghost use Rattle.std.specs.Prelude.{◌*ℤ◌, ◌≡◌, ◌+◌, ◌<◌, ◌^◌, ◌≤ℤ◌, Err, IfErr, IfOk, Ok, length, ◌≤◌, if◌then◌else◌, pos};
 ghost use Rattle.cv_meaning.specs.Contract.{compare as compare_of};
 ghost use Rattle.cv_meaning.specs.State.{address as address_in, assign as assign_in, with_var};
 ghost use Rattle.cv_meaning.specs.Step.{branch, branch_pointers, by_rel as by_rel_of, copied as copied_in, equal_pointers as equal_pointers_of, is_wild as is_wild_of, pointer_of as pointer_at, ranged as ranged_in, value_of as value_in};
@@ -376,6 +376,12 @@ fn taken_off(
     ranged(p, a, k, x, z, s)
 }
 
+fn product(a: i32, b: i32) -> i64
+    ensures { result ≡ a *ℤ b }
+{
+    i64::from(a) * i64::from(b)
+}
+
 /// The exact product of a number and an operand.
 #[tactic(auto, unfolding(cv_meaning::specs::Step::step))]
 fn multiplied(
@@ -392,7 +398,7 @@ fn multiplied(
     requires whole { IsWhole a.now.proc.now s.old }
     ensures { Takes p.now a.now k (Form.Product x.now by e.now) s.old result s.new }
 {
-    let z = i64::from(by) * i64::from(number_in(a, s, e));
+    let z = product(by, number_in(a, s, e));
     ranged(p, a, k, x, z, s)
 }
 

@@ -11,11 +11,11 @@ pub returns-in-Address : goal.returns-in-Address
 unfolding step
 returns-in-Address c =
     let s : State = state c.args.a.now.proc.now c.args.s.now in
-    let pointer : Value = value.Ptr (At (address c.args.p.now (frame c.args.a.now) c.in-Address.object.now) 0) in
+    let pointer : Value = value.Ptr (At (address c.args.p.now (frame c.args.a.now) c.in-Address.object) 0) in
     let next : suc c.args.k ≡ c.held-in-Address.result = omega arith in
-    let there : with_var c.in-Address.x.now pointer s ≡ state c.args.a.now.proc.now c.held-in-Address.new.s =
-    ap (λ v. with_var c.in-Address.x.now v s) (sym c.named.ensures) ∙ sym c.held-in-Address.ensures.state in (
-      ap (λ f. step c.args.p.now (frame c.args.a.now) c.args.k f s) c.in-Address.is ∙ ap (λ n. Ok (n, with_var c.in-Address.x.now pointer s)) next
+    let there : with_var c.in-Address.x pointer s ≡ state c.args.a.now.proc.now c.held-in-Address.new.s =
+    ap (λ v. with_var c.in-Address.x v s) (sym c.named.ensures) ∙ sym c.held-in-Address.ensures.state in (
+      ap (λ f. step c.args.p.now (frame c.args.a.now) c.args.k f s) c.in-Address.is ∙ ap (λ n. Ok (n, with_var c.in-Address.x pointer s)) next
           ∙ ap (λ t. Ok (c.held-in-Address.result, t)) there,
       c.held-in-Address.ensures.kept,
     )
