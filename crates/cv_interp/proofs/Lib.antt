@@ -17,3 +17,4 @@ pub mod Arriving
 pub mod Running
 pub mod Calling
 pub mod Making
+pub mod Asked

@@ -6,7 +6,7 @@ use Rattle.std.proofs.lemmas.Bool.{ltb-false}
 use Rattle.std.proofs.lemmas.Option.{slice_get-get_or}
 use Rattle.cv_core.specs.Grammar.{IsBody, IsForm, IsProc, IsStmt, IsWritten}
 use Rattle.cv_core.specs.Limits.{first_limit, has_many_parts, is_passed, part_count, passes, tested, variable_count}
-use Rattle.cv_core.specs.Names.{locals_of, stmts_of}
+use Rattle.cv_core.specs.Names.{locals_of, stmts_at, stmts_of}
 use Rattle.cv_core.specs.declared.faults.LimitName.{LimitName}
 use Rattle.cv_core.specs.declared.faults.LimitName.TheVariants as limit
 use Rattle.cv_core.specs.declared.program.Program.{Program}
@@ -104,3 +104,11 @@ body_form (Some b) k s h e = (all_at IsStmt b.stmts k s h.1 e).1
 
 pub form_written : (P : Program) (i k : ℕ) (f : Proc) (s : Stmt) → IsWritten P → slice_get P.procs i ≡ Some f → slice_get (stmts_of f.body) k ≡ Some s → IsForm s.form
 form_written P i k f s w at there = let p : IsProc f = all_at IsProc P.procs i f w.procs at in body_form f.body k s p.body there
+
+-- ---- the statements of a procedure
+
+pub stmts_at_is : (fs : List Proc) (i : ℕ) (f : Proc) → slice_get fs i ≡ Some f → stmts_at fs i ≡ stmts_of f.body
+stmts_at_is [] zero f e = absurd (cc)
+stmts_at_is [] (suc i) f e = absurd (cc)
+stmts_at_is (g ∷ gs) zero f e = let same : g ≡ f = cc in ap (λ (h : Proc). stmts_of h.body) same
+stmts_at_is (g ∷ gs) (suc i) f e = stmts_at_is gs i f e

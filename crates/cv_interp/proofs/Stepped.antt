@@ -1,6 +1,6 @@
 -- Each step that is no call and no return is ready, and leads from a sound state to a sound one.
-use Rattle.std.proofs.Common.{◌≡◌, refl, sym, ap, subst, ◌∙◌, ℕ, zero, suc, ◌+◌, ◌<◌, ◌⊎◌, inl, inr, Bool, true, false, ◌&&◌, ◌||◌, List, length, Option, Some, None, Ok, Err, Result, arith, ℤ, pos}
-use Rattle.std.specs.Prelude.{slice_get, IsSome, if◌then◌else◌}
+use Rattle.std.proofs.Common.{◌≡◌, refl, sym, ap, subst, ◌∙◌, ℕ, zero, suc, ◌+◌, ◌<◌, ◌⊎◌, inl, inr, Bool, true, false, ◌&&◌, ◌||◌, List, length, Option, Some, None, Ok, Err, Result, arith, ℤ, pos, ◌+ℤ◌}
+use Rattle.std.specs.Prelude.{slice_get, IsSome, if◌then◌else◌, ◌-ℤ◌, ◌*ℤ◌, ◌==◌}
 use Rattle.cv_core.specs.Grammar.{IsForm}
 use Rattle.cv_core.specs.Kinds.{copies, has_kinds, held_by, means_iptr, means_number, means_pointer, means_pptr, means_ptr, points_to, puts, same_pointers}
 use Rattle.cv_core.specs.Meant.{meant_by_local, meant_in}
@@ -25,15 +25,18 @@ use Rattle.cv_meaning.specs.declared.memory.Ptr.TheVariants.{Null, Wild, At}
 use Rattle.cv_meaning.specs.declared.memory.Value.{Value}
 use Rattle.cv_meaning.specs.declared.memory.Value.TheVariants as value
 use Rattle.cv_meaning.specs.Checked.{Checked, ◌>>=◌, unless}
-use Rattle.cv_meaning.specs.Memory.{Memory, cell_at, get, live, load, put, shift, store}
+use Rattle.cv_meaning.specs.Memory.{Memory, cell_at, diff, get, live, load, put, shift, store}
 use Rattle.cv_meaning.specs.State.{Frame, State, address, any_value, as_kind, assign, assign_value, operand_value, pointer, spend, with_var}
-use Rattle.cv_meaning.specs.Step.{Next, branch, branch_pointers, copied, goes, jumps, ranged, step}
+use Rattle.cv_meaning.specs.Step.{Next, branch, branch_pointers, by_rel, copied, goes, is_int, jumps, pointer_of, ranged, step, value_of}
+use Rattle.cv_core.specs.Chars.{char_of, low_byte}
+use Rattle.cv_core.specs.declared.faults.ErrKind.TheVariants as err
+use Rattle.std.specs.Int.RustNames.{int_div, int_rem}
 use Rattle.cv_interp.proofs.Addressed.{IsCellBody, address_cell}
 use Rattle.cv_interp.proofs.Kinded.{body_of, iptr_is, iptr_variable, means_is, number_plain, pptr_is, pptr_variable, ptr_plain, ptr_variable, variable_is}
 use Rattle.cv_interp.proofs.Typed.{All_ok, IsAfter, any_near, bind_all, fit_keeps, fit_set, get_near, kind_near, operand_near, plain_fits, put_after, shift_near, store_after, unless_all}
 use Rattle.cv_interp.specs.Cells.{IsCellIfLive}
 use Rattle.cv_interp.specs.Sound.{Fits, HasGlobals, HasLocals, IsFit, IsMemory, IsState, Keeps, PointsToCell, is_cell_kind}
-use Rattle.cv_interp.specs.Takes.{HasSlot, IsNear, IsReady}
+use Rattle.cv_interp.specs.Takes.{HasSlot, IsNear, IsNearPtr, IsReady}
 
 -- ---- parts of tests
 
@@ -221,7 +224,7 @@ abbrev pub Nexts : Program → Frame → State → Next → Type 0
 Nexts P f s next = All_ok next (λ (r : ℕ × State). IsNext P f s r.1)
 
 ranged_next : (P : Program) (f : Frame) (k : ℕ) (x : Name) (z : ℤ) (s : State) → IsState P f s → is_cell_kind (kind_of f.proc x) ≡ false → Nexts P f s (ranged P f k x z s)
-ranged_next P f k x z s i plain = unless_all _ _ _ (λ (r : ℕ × State). IsNext P f s r.1) (λ _. assign_next P f s x z i plain)
+ranged_next P f k x z s i plain = unless_all (is_int z) err.Range (goes k (assign P f x z s)) (λ (r : ℕ × State). IsNext P f s r.1) (λ _. assign_next P f s x z i plain)
 
 jumps_next : (P : Program) (f : Frame) (s t : State) (b : Bool) (to k : ℕ) → IsNext P f s t → Nexts P f s (jumps b to k t)
 jumps_next P f s t true to k h = h
@@ -263,29 +266,29 @@ anything (Err e) = tt
 
 pub step_sound : (P : Program) (f : Frame) (k : ℕ) (form : Form) (s : State) → has_kinds P f.proc form ≡ true → IsState P f s → Nexts P f s (step P f k form s)
 unfolding step
-step_sound P f k (form.Assign x e) s h i = assign_next P f s x _ i (number_plain P f.proc x (first_true _ _ h)).0
-step_sound P f k (form.Sum x d e) s h i = ranged_next P f k x _ s i (number_plain P f.proc x (first_true _ _ (first_true _ _ h))).0
-step_sound P f k (form.Minus x d e) s h i = ranged_next P f k x _ s i (number_plain P f.proc x (first_true _ _ (first_true _ _ h))).0
-step_sound P f k (form.Product x z e) s h i = ranged_next P f k x _ s i (number_plain P f.proc x (first_true _ _ h)).0
-step_sound P f k (form.Quotient x e z) s h i = assign_next P f s x _ i (number_plain P f.proc x (first_true _ _ h)).0
-step_sound P f k (form.Remainder x e z) s h i = assign_next P f s x _ i (number_plain P f.proc x (first_true _ _ h)).0
+step_sound P f k (form.Assign x e) s h i = assign_next P f s x (value_of s e) i (number_plain P f.proc x (first_true _ _ h)).0
+step_sound P f k (form.Sum x d e) s h i = ranged_next P f k x (value_of s d +ℤ value_of s e) s i (number_plain P f.proc x (first_true _ _ (first_true _ _ h))).0
+step_sound P f k (form.Minus x d e) s h i = ranged_next P f k x (value_of s d -ℤ value_of s e) s i (number_plain P f.proc x (first_true _ _ (first_true _ _ h))).0
+step_sound P f k (form.Product x z e) s h i = ranged_next P f k x (z *ℤ value_of s e) s i (number_plain P f.proc x (first_true _ _ h)).0
+step_sound P f k (form.Quotient x e z) s h i = assign_next P f s x (int_div (value_of s e) z) i (number_plain P f.proc x (first_true _ _ h)).0
+step_sound P f k (form.Remainder x e z) s h i = assign_next P f s x (int_rem (value_of s e) z) i (number_plain P f.proc x (first_true _ _ h)).0
 step_sound P f k (form.CopyPtr p q) s h i = var_next P f s p (copied s q) i (copied_fits P f s p q h i)
-step_sound P f k (form.Address p a) s h i = var_next P f s p _ i (address_fits P f s p a h i)
+step_sound P f k (form.Address p a) s h i = var_next P f s p (value.Ptr (At (address P f a) 0)) i (address_fits P f s p a h i)
 step_sound P f k (form.Shift p q e) s h i =
-    bind_all (shift s.memory _ _) _ _ _ (shift_near s.memory _ _ i.memory)
+    bind_all (shift s.memory (pointer_of s q) (value_of s e)) (λ r. goes k (with_var p (value.Ptr r) s)) IsNearPtr (λ (r : ℕ × State). IsNext P f s r.1) (shift_near s.memory (pointer_of s q) (value_of s e) i.memory)
     (λ r near. plain_next P f s p (value.Ptr r) i (ptr_plain P f.proc p (first_true _ _ (first_true _ _ h))).0 near)
 step_sound P f k (form.Load x p) s h i =
-    bind_all (load s.memory _) _ (λ _. Unit {0}) _ (anything _) (λ b _. assign_next P f s x _ i (number_plain P f.proc x (first_true _ _ h)).0)
-step_sound P f k (form.Store p e) s h i = bind_all (store s.memory _ _ f.permit) _ _ _ (store_after s.memory _ _ f.permit i.memory) (λ m a. memory_next P f s m i a)
+    bind_all (load s.memory (pointer_of s p)) (λ b. goes k (assign P f x (char_of P (pos b)) s)) (λ _. Unit {0}) (λ (r : ℕ × State). IsNext P f s r.1) (anything (load s.memory (pointer_of s p))) (λ b _. assign_next P f s x (char_of P (pos b)) i (number_plain P f.proc x (first_true _ _ h)).0)
+step_sound P f k (form.Store p e) s h i = bind_all (store s.memory (pointer_of s p) (low_byte (value_of s e)) f.permit) (λ m. goes k (record s { memory = m })) (IsAfter s.memory) (λ (r : ℕ × State). IsNext P f s r.1) (store_after s.memory (pointer_of s p) (low_byte (value_of s e)) f.permit i.memory) (λ m a. memory_next P f s m i a)
 step_sound P f k (form.Get x w) s h i =
-    bind_all (get s.memory _) _ _ _ (get_near s.memory _ i.memory) (λ v near. assign_value_next P f s x v i (got_slot P f.proc x w h).0 near)
+    bind_all (get s.memory (pointer_of s w)) (λ v. goes k (assign_value P f x v s)) IsNear (λ (r : ℕ × State). IsNext P f s r.1) (get_near s.memory (pointer_of s w) i.memory) (λ v near. assign_value_next P f s x v i (got_slot P f.proc x w h).0 near)
 step_sound P f k (form.Put w e) s h i =
-    bind_all (put s.memory _ _ f.permit) _ _ _ (put_after s.memory _ _ f.permit i.memory (any_near f.proc s.memory s.vars e i.fit)) (λ m a. memory_next P f s m i a)
+    bind_all (put s.memory (pointer_of s w) (any_value s.vars e) f.permit) (λ m. goes k (record s { memory = m })) (IsAfter s.memory) (λ (r : ℕ × State). IsNext P f s r.1) (put_after s.memory (pointer_of s w) (any_value s.vars e) f.permit i.memory (any_near f.proc s.memory s.vars e i.fit)) (λ m a. memory_next P f s m i a)
 step_sound P f k (form.Diff x p q) s h i =
-    bind_all _ _ (λ _. Unit {0}) _ (anything _) (λ z _. assign_next P f s x z i (number_plain P f.proc x (first_true _ _ (first_true _ _ h))).0)
+    bind_all (diff s.memory (pointer_of s p) (pointer_of s q)) (λ z. goes k (assign P f x z s)) (λ _. Unit {0}) (λ (r : ℕ × State). IsNext P f s r.1) (anything (diff s.memory (pointer_of s p) (pointer_of s q))) (λ z _. assign_next P f s x z i (number_plain P f.proc x (first_true _ _ (first_true _ _ h))).0)
 step_sound P f k (form.Goto to) s h i = same_next P f s i
-step_sound P f k (form.If e r d to) s h i = branch_next P f r _ _ to k s i
+step_sound P f k (form.If e r d to) s h i = branch_next P f r (operand_value s.vars e) (any_value s.vars d) to k s i
 step_sound P f k (form.IfByte p equal to) s h i =
-    bind_all (load s.memory _) _ (λ _. Unit {0}) _ (anything _) (λ b _. jumps_next P f s s _ to k (same_next P f s i))
+    bind_all (load s.memory (pointer_of s p)) (λ b. jumps (by_rel (if equal then rel.Eq else rel.Ne) (b == 0)) to k s) (λ _. Unit {0}) (λ (r : ℕ × State). IsNext P f s r.1) (anything (load s.memory (pointer_of s p))) (λ b _. jumps_next P f s s (by_rel (if equal then rel.Eq else rel.Ne) (b == 0)) to k (same_next P f s i))
 step_sound P f k (form.Call into g args) s h i = same_next P f s i
 step_sound P f k (form.Return e) s h i = same_next P f s i

@@ -390,6 +390,7 @@ fn values_of(
 }
 
 /// One step of a call; after want of memory nothing has changed.
+#[tactic(auto, unfolding(cv_meaning::specs::Call::call))]
 pub(crate) fn call<'a>(
     alloc: Global,
     p: &'a Program,

@@ -97,3 +97,10 @@ fn calling(n: u8) -> u8
 {
     n
 }
+
+#[tactic(auto, using(crate::proofs::Asked::extern_bounds))]
+fn asking(n: u8) -> u8
+    ensures { result ≡ n }
+{
+    n
+}
