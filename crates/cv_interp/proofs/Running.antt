@@ -1,12 +1,13 @@
 -- Many steps.
-use Rattle.std.proofs.Common.{◌≡◌, refl, sym, ap, ◌∙◌, ℕ, zero, suc, ◌+◌, ◌-◌, ◌<◌, ◌≤◌, Option, Some, None, arith}
+use Rattle.std.proofs.Common.{◌≡◌, refl, sym, ap, ◌∙◌, ℕ, zero, suc, ◌+◌, ◌-◌, ◌<◌, ◌≤◌, Option, Some, None, Ok, Err, Result, arith}
+use Rattle.std.specs.Prelude.{IfOk, OnOk}
 use Rattle.cv_meaning.specs.declared.ends.RunEnd.{RunEnd}
 use Rattle.cv_meaning.specs.declared.ends.RunEnd.TheVariants as how
 use Rattle.cv_interp.specs.declared.machine.Ended.{Ended}
 use Rattle.cv_interp.specs.declared.machine.Ended.TheVariants as ended
 use Rattle.cv_interp.specs.declared.machine.Turn.{Turn}
 use Rattle.cv_interp.specs.declared.machine.Turn.TheVariants as answers
-use Rattle.cv_interp.specs.Good.{ended_how}
+use Rattle.cv_interp.specs.Good.{Leads, ended_how}
 use Rattle.cv_interp.specs.Level.{Stack}
 use Rattle.cv_interp.specs.Machine.{Outcome, end, turn_of}
 use Rattle.cv_interp.proofs.Leads.{end_error, end_returned, end_same, end_zero}
@@ -75,3 +76,25 @@ stands_at a b d i steps n e lt before step is other =
 -- one more step that goes on
 pub more_steps : (a b d : Stack) (i n : ℕ) → ((n : ℕ) → end b n ≡ end a (i + n)) → ((n : ℕ) → end d n ≡ end b (1 + n)) → end d n ≡ end a (i + 1 + n)
 more_steps a b d i n before step = let sum : i + (1 + n) ≡ i + 1 + n = omega arith in step n ∙ before (1 + n) ∙ ap (end a) sum
+
+-- ---- the output, and the clauses of a step
+
+output_by : (m : Stack) (o : Option Ended) → m.ended ≡ o → m.output ≡ (end m 0).output
+output_by m None h = sym (ap (λ (o : Outcome). o.output) (end_zero m h))
+output_by m (Some (ended.Error kind proc line)) h = sym (ap (λ (o : Outcome). o.output) (end_error m 0 kind proc line h))
+output_by m (Some (ended.Returned z)) h = sym (ap (λ (o : Outcome). o.output) (end_returned m 0 z h))
+
+pub output_now : (m : Stack) → m.output ≡ (end m 0).output
+output_now m = output_by m m.ended refl
+
+pub leads_turn : {E : Type 0} (r : Result Turn E) (m n : Stack) → IfOk r (λ t. Leads m t n) → IfOk r (λ t. t ≡ turn_of (end m 1).how)
+leads_turn (Ok t) m n h = h.turn
+leads_turn (Err e) m n h = h
+
+pub leads_stands : {E : Type 0} (r : Result Turn E) (m n : Stack) → IfOk r (λ t. Leads m t n) → OnOk r ((k : ℕ) → end n k ≡ end m (1 + k))
+leads_stands (Ok t) m n h = h.stands
+leads_stands (Err e) m n h = h
+
+-- a machine that has ended is led to itself
+pub ended_leads : (m : Stack) (e : Ended) → m.ended ≡ Some e → Leads m (turn_of (ended_how e)) m
+ended_leads m e h = record { turn = sym (ap turn_of (how_ended m e 1 h)); stands = λ k. end_same m e k (1 + k) h }
