@@ -1,5 +1,5 @@
 //! Where a run of main begins.
-ghost use Rattle.std.specs.Prelude.{◌≡◌, ◌+◌, ◌++◌, ◌∷◌, [], ◌≤◌, ◌<◌, ◌^◌, All, IfOk, OnOk, length, replicate};
+ghost use Rattle.std.specs.Prelude.{◌≡◌, ◌+◌, ◌++◌, ◌∷◌, [], ◌≤◌, ◌<◌, ◌^◌, All, IfOk, OnOk, length, replicate, true};
 ghost use Rattle.cv_meaning.specs.Clean.{literal_objects};
 ghost use Rattle.cv_meaning.specs.Memory.{IsShort};
 ghost use Rattle.cv_meaning.specs.declared.memory.Body.TheVariants.{Buffer};
@@ -81,7 +81,7 @@ fn zeros(alloc: Global, count: u32) -> Result<Vec<u8>, AllocError>
     ensures { IfOk result (λ bytes. bytes.items ≡ replicate count 0) }
 {
     let mut bytes = Vec::new(alloc);
-    for _i in 0..count {
+    for i in 0..count {
         bytes.push(0)?;
     }
     Ok(bytes)

@@ -387,7 +387,7 @@ impl<'a> Machine<'a> {
         if let Some(end) = self.core.ended {
             return Ok(run_end_of(end));
         }
-        for _i in 0..steps {
+        for i in 0..steps {
             match self.step()? {
                 Turn::On => {}
                 Turn::Error { kind, proc, line } => {

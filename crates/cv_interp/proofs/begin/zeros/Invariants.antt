@@ -2,5 +2,5 @@
 use Rattle.std.proofs.Common.{◌≡◌, length, replicate}
 use Rattle.cv_interp.proofs.begin.zeros.Given as goal
 
-abbrev pub invariant-loop-_i : goal.invariant-loop-_i
-invariant-loop-_i l = l.bytes.items ≡ replicate l._i 0
+abbrev pub invariant-loop-i : goal.invariant-loop-i
+invariant-loop-i l = l.bytes.items ≡ replicate l.i 0
