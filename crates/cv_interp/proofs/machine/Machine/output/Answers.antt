@@ -6,4 +6,4 @@ use Rattle.cv_interp.proofs.Running.{output_now}
 use Rattle.cv_interp.proofs.machine.Machine.output.Goals as goal
 
 pub returns : goal.returns
-returns c = c.as_slice.ensures ∙ (output_now (stack_of c.self.inside.core) ∙ ap (λ (m : Stack). (end m 0).output) c.self.view_is)
+returns c = c.as_slice.ensures.value ∙ (output_now (stack_of c.self.inside.core) ∙ ap (λ (m : Stack). (end m 0).output) c.self.view_is)
