@@ -18,3 +18,7 @@ pub mod Running
 pub mod Calling
 pub mod Making
 pub mod Asked
+pub mod Granted
+pub mod Located
+pub mod Started
+pub mod Launched

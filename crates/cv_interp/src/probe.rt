@@ -104,3 +104,31 @@ fn asking(n: u8) -> u8
 {
     n
 }
+
+#[tactic(auto, using(crate::proofs::Granted::either_order))]
+fn granting(n: u8) -> u8
+    ensures { result ≡ n }
+{
+    n
+}
+
+#[tactic(auto, using(crate::proofs::Located::has_locals))]
+fn locating(n: u8) -> u8
+    ensures { result ≡ n }
+{
+    n
+}
+
+#[tactic(auto, using(crate::proofs::Started::start_fit))]
+fn starting(n: u8) -> u8
+    ensures { result ≡ n }
+{
+    n
+}
+
+#[tactic(auto, using(crate::proofs::Launched::start_good))]
+fn launching(n: u8) -> u8
+    ensures { result ≡ n }
+{
+    n
+}
