@@ -1,5 +1,5 @@
 -- malloc, as the code takes it: the buffer first, and then the allocation answer.
-use Rattle.std.proofs.Common.{◌≡◌, refl, sym, ap, ◌∙◌, ℕ, suc, Bool, true, false, List, [], ◌∷◌, ◌++◌, length, drop, Option, arith, ℤ, pos, negsuc}
+use Rattle.std.proofs.Common.{◌≡◌, refl, sym, ap, ◌∙◌, ℕ, suc, Bool, true, false, List, [], ◌∷◌, ◌++◌, length, drop, Option, Some, arith, ℤ, pos, negsuc}
 use Rattle.std.specs.Prelude.{slice_index_or, ◌<ℤ◌, ◌≤ℤ◌}
 use Rattle.std.proofs.lemmas.Int.{ints}
 use Rattle.cv_core.specs.Names.{Name}

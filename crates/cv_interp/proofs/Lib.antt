@@ -22,3 +22,4 @@ pub mod Granted
 pub mod Located
 pub mod Started
 pub mod Launched
+pub mod Admitted

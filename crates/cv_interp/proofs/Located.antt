@@ -52,7 +52,7 @@ locals_keep P site (l ∷ ls) s = λ o c.
 
 -- ---- all locals
 
-last_cell : (m : Memory) (y : Object) → IsSome (cell_in y.body) → IsSome (cell_at (m ++ y ∷ []) (length m + 0))
+last_cell : (m : Memory) (y : Object) → IsSome (cell_in y.body) → IsSome (cell_at (m ++ y ∷ []) (length m))
 last_cell [] y c = c
 last_cell (x ∷ m) y c = last_cell m y c
 
@@ -66,7 +66,9 @@ with_first : (l : Local) (rest : List Local) (m n end : Memory) (b : Bool) (i : 
 with_first l rest m n end false i h k others = λ x at c. subst (λ (v : Memory). IsSome (cell_at end (length v + i))) h (others i x at c)
 with_first l rest m n end true zero (y, e, cell) k others = λ x at c.
     let same : l ≡ x = cc in
-    k (length m + 0) (subst (λ (v : Memory). IsSome (cell_at v (length m + 0))) (sym e) (last_cell m y (cell (subst (λ (v : Local). is_cell_local v.body ≡ true) (sym same) c))))
+    let here : length m ≡ length m + 0 = omega arith in
+    subst (λ j. IsSome (cell_at end j)) here
+    (k (length m) (subst (λ (v : Memory). IsSome (cell_at v (length m))) (sym e) (last_cell m y (cell (subst (λ (v : Local). is_cell_local v.body ≡ true) (sym same) c)))))
 with_first l rest m n end true (suc i) (y, e, cell) k others = λ x at c.
     let far : length n + i ≡ length m + suc i = omega (arith, ap length e, length-append m (y ∷ [])) in
     subst (λ j. IsSome (cell_at end j)) far (others i x at c)

@@ -1,5 +1,5 @@
 -- The first memory and the first variables are sound.
-use Rattle.std.proofs.Common.{◌≡◌, refl, sym, ap, subst, ◌∙◌, ℕ, zero, suc, ◌+◌, ◌<◌, ◌≤◌, ◌^◌, Bool, true, false, List, [], ◌∷◌, ◌++◌, length, replicate, Option, Some, None, arith}
+use Rattle.std.proofs.Common.{◌≡◌, refl, sym, ap, subst, ◌∙◌, ℕ, zero, suc, ◌+◌, ◌<◌, ◌≤◌, ◌^◌, Bool, true, false, List, [], ◌∷◌, ◌++◌, length, replicate, Option, Some, None, arith, pos}
 use Rattle.std.specs.Prelude.{All, slice_get, IsSome}
 use Rattle.std.specs.Str.{bytes_eq}
 use Rattle.std.proofs.lemmas.Bool.{ltb-false}
@@ -47,7 +47,7 @@ ended_object site bytes le = short_object site (bytes ++ 0 ∷ []) (omega (arith
 global_object : (site : ℕ) (b : GlobalBody) → IsGlobalBody b → IsObject (record { site = site; live = true; body = global_body b })
 global_object site (global.Buffer n) h = short_object site (replicate n 0) (subst (λ k. k < 2 ^ 31) (sym (length-replicate n 0)) h.1)
 global_object site global.Pointer h = record { short = omega arith; near = λ v e. let same : value.Ptr Null ≡ v = cc in subst IsNear same tt }
-global_object site global.Int h = record { short = omega arith; near = λ v e. let same : value.Int _ ≡ v = cc in subst IsNear same tt }
+global_object site global.Int h = record { short = omega arith; near = λ v e. let same : value.Int (pos 0) ≡ v = cc in subst IsNear same tt }
 
 -- each object of a memory may stand in one
 abbrev AreObjects : Memory → Type 0
