@@ -44,22 +44,27 @@ two_err true true e d r next h = absurd (cc)
 two_err true false e d r next h = let same : d ≡ r = cc in ap Err same
 two_err false b e d r next h = let same : e ≡ r = cc in ap Err same
 
-pub calls_refused : (P : Program) (f g : Frame) (k : ℕ) (into : Option Name) (s : State) → may_enter P g ≡ false → call_turn P f g k into s ≡ Errs err.Requires
-calls_refused P f g k into s e = ap (λ b. as_turn (unless b err.Requires (permitted f.permit g.permit.allowed (Ok (entry_turn P f g k into g.proc.body s))))) e
+-- the frame that a guest makes, which is that of the meaning
+pub calls_refused : (P : Program) (f e g : Frame) (k : ℕ) (into : Option Name) (s : State) → e ≡ g → may_enter P e ≡ false → call_turn P f g k into s ≡ Errs err.Requires
+calls_refused P f e g k into s same barred =
+    sym (ap (λ (h : Frame). call_turn P f h k into s) same)
+    ∙ ap (λ b. as_turn (unless b err.Requires (permitted f.permit e.permit.allowed (Ok (entry_turn P f e k into e.proc.body s))))) barred
 
-pub calls_barred : (P : Program) (f g : Frame) (k : ℕ) (into : Option Name) (s : State) (r : ErrKind) → may_enter P g ≡ true → permitted {A = Unit {0}} f.permit g.permit.allowed (Ok tt) ≡ Err r →
-    call_turn P f g k into s ≡ Errs r
-calls_barred P f g k into s r e h =
-    ap (λ b. as_turn (unless b err.Requires (permitted f.permit g.permit.allowed (Ok (entry_turn P f g k into g.proc.body s))))) e
-    ∙ ap as_turn (two_err (list_all (is_no_literal f.permit) g.permit.allowed) (list_all (may_change f.permit) g.permit.allowed) err.Literal err.Modifies r
-    (Ok (entry_turn P f g k into g.proc.body s)) h)
+pub calls_barred : (P : Program) (f e g : Frame) (k : ℕ) (into : Option Name) (s : State) (r : ErrKind) → e ≡ g → may_enter P e ≡ true →
+    permitted {A = Unit {0}} f.permit e.permit.allowed (Ok tt) ≡ Err r → call_turn P f g k into s ≡ Errs r
+calls_barred P f e g k into s r same may h =
+    sym (ap (λ (h : Frame). call_turn P f h k into s) same)
+    ∙ ap (λ b. as_turn (unless b err.Requires (permitted f.permit e.permit.allowed (Ok (entry_turn P f e k into e.proc.body s))))) may
+    ∙ ap as_turn (two_err (list_all (is_no_literal f.permit) e.permit.allowed) (list_all (may_change f.permit) e.permit.allowed) err.Literal err.Modifies r
+    (Ok (entry_turn P f e k into e.proc.body s)) h)
 
-pub calls_on : (P : Program) (f g : Frame) (k : ℕ) (into : Option Name) (s : State) → may_enter P g ≡ true → permitted {A = Unit {0}} f.permit g.permit.allowed (Ok tt) ≡ Ok tt →
-    call_turn P f g k into s ≡ entry_turn P f g k into g.proc.body s
-calls_on P f g k into s e h =
-    ap (λ b. as_turn (unless b err.Requires (permitted f.permit g.permit.allowed (Ok (entry_turn P f g k into g.proc.body s))))) e
-    ∙ ap as_turn (two_ok (list_all (is_no_literal f.permit) g.permit.allowed) (list_all (may_change f.permit) g.permit.allowed) err.Literal err.Modifies
-    (Ok (entry_turn P f g k into g.proc.body s)) h)
+pub calls_on : (P : Program) (f e g : Frame) (k : ℕ) (into : Option Name) (s : State) → e ≡ g → may_enter P e ≡ true →
+    permitted {A = Unit {0}} f.permit e.permit.allowed (Ok tt) ≡ Ok tt → call_turn P f g k into s ≡ entry_turn P f e k into e.proc.body s
+calls_on P f e g k into s same may h =
+    sym (ap (λ (h : Frame). call_turn P f h k into s) same)
+    ∙ ap (λ b. as_turn (unless b err.Requires (permitted f.permit e.permit.allowed (Ok (entry_turn P f e k into e.proc.body s))))) may
+    ∙ ap as_turn (two_ok (list_all (is_no_literal f.permit) e.permit.allowed) (list_all (may_change f.permit) e.permit.allowed) err.Literal err.Modifies
+    (Ok (entry_turn P f e k into e.proc.body s)) h)
 
 -- ---- an extern procedure
 

@@ -18,7 +18,6 @@ pub mod Running
 pub mod Calling
 pub mod Making
 pub mod Asked
-pub mod Granted
 pub mod Located
 pub mod Started
 pub mod Launched
