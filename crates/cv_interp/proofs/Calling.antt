@@ -31,7 +31,7 @@ IsLater P f s t = IsState P f t × Keeps s.memory t.memory
 abbrev pub Leads_on : Program → Frame → State → Turn → Type 0
 Leads_on P f s (Errs kind) = Unit {0}
 Leads_on P f s (Goes j t) = IsLater P f s t
-Leads_on P f s (Enters g t) = IsState P g t × Keeps s.memory t.memory
+Leads_on P f s (Enters g t) = (slice_get P.procs g.number ≡ Some g.proc) × (g.permit.first ≡ length s.memory) × IsState P g t × Keeps s.memory t.memory
 Leads_on P f s (Leaves v t) = Unit {0}
 
 -- ---- destinations

@@ -18,3 +18,11 @@ pub mod Running
 pub mod Calling
 pub mod Making
 pub mod Asked
+pub mod Named
+pub mod Kept
+pub mod Guests
+pub mod Parts
+pub mod Behind
+pub mod Onward
+pub mod Outward
+pub mod Taking

@@ -1,4 +1,5 @@
-use Rattle.cv_interp.proofs.Going.{go_ready, go_small}
+use Rattle.cv_interp.proofs.Going.{at_small, go_ready, go_small}
+use Rattle.cv_interp.proofs.Limited.{few_globals}
 use Rattle.cv_interp.proofs.machine.go.Goals as goal
 
 pub step-requires-clause-room : goal.step-requires-clause-room
