@@ -1,5 +1,5 @@
 -- A machine behind the return of the procedure that ran.
-use Rattle.std.proofs.Common.{◌≡◌, refl, sym, ap, subst, ◌∙◌, ℕ, zero, suc, ◌+◌, ◌≤◌, ◌^◌, List, [], ◌∷◌, ◌++◌, length, map, Option, Some, None, arith}
+use Rattle.std.proofs.Common.{◌≡◌, refl, sym, ap, subst, ◌∙◌, ℕ, zero, suc, ◌+◌, ◌≤◌, ◌^◌, List, [], ◌∷◌, ◌++◌, length, map, Option, Some, None, arith, true}
 use Rattle.std.specs.Prelude.{All, IfSome, slice_get}
 use Rattle.std.specs.Option.{option_to_list}
 use Rattle.std.proofs.lemmas.List.{map-append}
@@ -112,11 +112,11 @@ back_room c w r good h e = subst (λ (q : Room). IsRoom w.activation.proc.now q)
 pub back_good : (c d : Core) (w : Waiting) (v : Option Value) → IsGood c → IsWaiting c.program.now c.store.room.memory w → All (IsWaiting c.program.now c.store.room.memory) d.waiting.items →
     IfSome v IsNear → d.program.now ≡ c.program.now → d.running ≡ w.activation → IsRoom w.activation.proc.now d.store.room →
     state w.activation.proc.now d.store ≡ give c.program.now (frame w.activation) (into_at w.activation.proc.now w.at) v (state_back c w) → IsGood d
-back_good c d w v good h below near same running room state =
+back_good c d w v good h below near same running room given =
     let later : IsLater c.program.now (frame w.activation) (state_back c w) (give c.program.now (frame w.activation) (into_at w.activation.proc.now w.at) v (state_back c w)) =
     given_later c.program.now (frame w.activation) (into_at w.activation.proc.now w.at) v (state_back c w) (back_plain c w good h).0 near (back_state c w good h) in
     let now : IsLater c.program.now (frame w.activation) (state_back c w) (state w.activation.proc.now d.store) =
-    subst (λ (s : State). IsLater c.program.now (frame w.activation) (state_back c w) s) (sym state) later in
+    subst (λ (s : State). IsLater c.program.now (frame w.activation) (state_back c w) s) (sym given) later in
     good_of d c.program.now w.activation d.waiting.items same running refl (fine_of c good) h.active room now.0
     (waiting_keeps c.program.now c.store.room.memory d.store.room.memory d.waiting.items now.1 below)
 
@@ -124,8 +124,8 @@ pub back_stands : (c d : Core) (w : Waiting) (v : Option Value) → c.waiting.it
     state w.activation.proc.now d.store ≡ give c.program.now (frame w.activation) (into_at w.activation.proc.now w.at) v (state_back c w) →
     (n : ℕ) → end (stack_of d) n ≡ end_behind (stack_of c) v n
 unfolding env_of
-back_stands c d w v popped on same running there state n =
+back_stands c d w v popped on same running there given n =
     let next : w.at + 1 ≡ suc w.at = omega arith in
     resumes (stack_of c) (stack_of d) v (map waiting_level d.waiting.items) (waiting_level w)
     (ap (map waiting_level) popped ∙ map-append waiting_level d.waiting.items (w ∷ []))
-    on same refl (ap frame running) (there ∙ next) (ap (λ (a : Activation). state a.proc.now d.store) running ∙ state) n
+    on same refl (ap frame running) (there ∙ next) (ap (λ (a : Activation). state a.proc.now d.store) running ∙ given) n

@@ -61,7 +61,7 @@ give_later P f (Some x) v s plain near i = let n : IsNext P f s _ = assign_value
 
 -- ---- states that differ in the world and the output alone
 
-world_state : (P : Program) (f : Frame) (s : State) (w : _) (out : List ℕ) → IsState P f s → IsState P f (record s { world = w; output = out })
+pub world_state : (P : Program) (f : Frame) (s : State) (w : _) (out : List ℕ) → IsState P f s → IsState P f (record s { world = w; output = out })
 world_state P f s w out i = record { fit = i.fit; memory = i.memory; globals = i.globals; locals = i.locals }
 
 pub object_later : (P : Program) (f : Frame) (s : State) (y : Object) (w : _) → IsState P f s → IsObject y → IsLater P f s (record s { memory = s.memory ++ y ∷ []; world = w })

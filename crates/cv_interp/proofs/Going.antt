@@ -7,6 +7,7 @@ use Rattle.cv_core.specs.Limits.{first_limit}
 use Rattle.cv_core.specs.Names.{locals_of, stmts_of}
 use Rattle.cv_core.specs.declared.faults.ErrKind.{ErrKind}
 use Rattle.cv_core.specs.declared.program.Program.{Program}
+use Rattle.cv_core.specs.declared.program.Proc.{Proc}
 use Rattle.cv_core.specs.declared.program.Stmt.{Stmt}
 use Rattle.cv_core.specs.declared.program.Form.{Form}
 use Rattle.cv_core.specs.declared.program.Form.TheVariants as form

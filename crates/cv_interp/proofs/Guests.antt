@@ -13,8 +13,6 @@ use Rattle.cv_core.specs.declared.program.Program.{Program}
 use Rattle.cv_core.specs.declared.program.Proc.{Proc}
 use Rattle.cv_core.specs.declared.program.ProcBody.{ProcBody}
 use Rattle.cv_core.specs.declared.program.AnyOperand.{AnyOperand}
-use Rattle.cv_core.specs.declared.shape.names.BuiltIn.{BuiltIn}
-use Rattle.cv_core.specs.declared.shape.names.BuiltIn.TheVariants as built
 use Rattle.cv_core.specs.declared.program.ResultKind.{ResultKind}
 use Rattle.cv_meaning.specs.declared.memory.Permit.{Permit}
 use Rattle.cv_meaning.specs.declared.memory.Value.{Value}
@@ -105,45 +103,41 @@ named_later : (P : Program) (f : Frame) (x : Name) (k : ℕ) (into : Option Name
 named_later P f x k into args s None at written h state = (state, λ o c. c)
 named_later P f x k into args s (Some i) at written h state = at_later P f x i k into args s (slice_get P.procs i) refl at written h state
 
+-- ---- the destination
+
+pub call_plain : (P : Program) (f : Proc) (into : Option Name) (args : List AnyOperand) (b : _) (o : Option Proc) → calls P f into args b o ≡ true → IsPlain f into
+call_plain P f into args (Some b) o h = into_plain P f _ into (first_true _ _ h)
+call_plain P f into args None None h = absurd (cc)
+call_plain P f into args None (Some g) h = into_plain P f g.answer into (first_true _ _ h)
+
+pub call_slot : (P : Program) (f : Proc) (into : Option Name) (args : List AnyOperand) (b : _) (o : Option Proc) → calls P f into args b o ≡ true → IsInto f into
+call_slot P f into args (Some b) o h = into_slot P f _ into (first_true _ _ h)
+call_slot P f into args None None h = absurd (cc)
+call_slot P f into args None (Some g) h = into_slot P f g.answer into (first_true _ _ h)
+
 -- ---- every call
 
-built_plain : (P : Program) (f : Proc) (into : Option Name) (args : List AnyOperand) (b : BuiltIn) (o : Option Proc) → calls P f into args (Some b) o ≡ true → IsPlain f into
-built_plain P f into args built.Malloc o h = into_plain P f _ into (first_true _ _ h)
-built_plain P f into args built.Getchar o h = into_plain P f _ into (first_true _ _ h)
-built_plain P f into args built.Putchar o h = into_plain P f _ into (first_true _ _ h)
+none_built : (x : Name) → bytes_eq x (codes "malloc") ≡ false → bytes_eq x (codes "getchar") ≡ false → bytes_eq x (codes "putchar") ≡ false → built_in x ≡ None
+none_built x e f g = rw (e, f, g) refl
 
 by_name : (P : Program) (f : Frame) (x : Name) (k : ℕ) (into : Option Name) (args : List AnyOperand) (s : State) (a b d : Bool) (site : ℕ) →
-    ((n : ℕ) → first_number (map (any_value s.vars) args) ≡ pos n → n < 2 ^ 31) → IsWritten P →
-    calls P f.proc into args (if a then Some built.Malloc else if b then Some built.Getchar else if d then Some built.Putchar else None) (called P x) ≡ true → IsState P f s →
+    ((n : ℕ) → first_number (map (any_value s.vars) args) ≡ pos n → n < 2 ^ 31) → IsWritten P → IsPlain f.proc into →
+    (a ≡ false → b ≡ false → d ≡ false → calls P f.proc into args None (called P x) ≡ true) → IsState P f s →
     Leads_on P f s (
       if a then malloc P (first_number (map (any_value s.vars) args)) site f k into s
       else if b then getchar P f k into s
       else if d then putchar P (first_number (map (any_value s.vars) args)) f k into s
       else call_named P f k into (place_of (λ h. h.name) x P.procs) (map (any_value s.vars) args) s
     )
-by_name P f x k into args s true b d site small written h state = malloc_later P (first_number (map (any_value s.vars) args)) site f k into s small (built_plain P f.proc into args built.Malloc (called P x) h) state
-by_name P f x k into args s false true d site small written h state = getchar_later P f k into s (built_plain P f.proc into args built.Getchar (called P x) h) state
-by_name P f x k into args s false false true site small written h state =
-    putchar_later P (first_number (map (any_value s.vars) args)) f k into s (built_plain P f.proc into args built.Putchar (called P x) h) state
-by_name P f x k into args s false false false site small written h state = named_later P f x k into args s (place_of (λ h. h.name) x P.procs) refl written h state
+by_name P f x k into args s true b d site small written plain h state = malloc_later P (first_number (map (any_value s.vars) args)) site f k into s small plain state
+by_name P f x k into args s false true d site small written plain h state = getchar_later P f k into s plain state
+by_name P f x k into args s false false true site small written plain h state = putchar_later P (first_number (map (any_value s.vars) args)) f k into s plain state
+by_name P f x k into args s false false false site small written plain h state = named_later P f x k into args s (place_of (λ h. h.name) x P.procs) refl written (h refl refl refl) state
 
 pub call_later : (P : Program) (f : Frame) (x : Name) (k : ℕ) (into : Option Name) (args : List AnyOperand) (s : State) →
     ((n : ℕ) → first_number (map (any_value s.vars) args) ≡ pos n → n < 2 ^ 31) → IsWritten P → calls P f.proc into args (built_in x) (called P x) ≡ true → IsState P f s →
     Leads_on P f s (call P f k into x (map (any_value s.vars) args) s)
 unfolding call
 call_later P f x k into args s small written h state =
-    by_name P f x k into args s (bytes_eq x (codes "malloc")) (bytes_eq x (codes "getchar")) (bytes_eq x (codes "putchar")) (malloc_site P f.number k) small written h state
-
--- ---- the destination
-
-pub call_plain : (P : Program) (f : Proc) (into : Option Name) (args : List AnyOperand) (b : Option BuiltIn) (o : Option Proc) → calls P f into args b o ≡ true → IsPlain f into
-call_plain P f into args (Some b) o h = built_plain P f into args b o h
-call_plain P f into args None None h = absurd (cc)
-call_plain P f into args None (Some g) h = (calls_proc P f into args (Some g) g refl h).0
-
-pub call_slot : (P : Program) (f : Proc) (into : Option Name) (args : List AnyOperand) (b : Option BuiltIn) (o : Option Proc) → calls P f into args b o ≡ true → IsInto f into
-call_slot P f into args (Some built.Malloc) o h = into_slot P f _ into (first_true _ _ h)
-call_slot P f into args (Some built.Getchar) o h = into_slot P f _ into (first_true _ _ h)
-call_slot P f into args (Some built.Putchar) o h = into_slot P f _ into (first_true _ _ h)
-call_slot P f into args None None h = absurd (cc)
-call_slot P f into args None (Some g) h = into_slot P f g.answer into (first_true _ _ h)
+    by_name P f x k into args s (bytes_eq x (codes "malloc")) (bytes_eq x (codes "getchar")) (bytes_eq x (codes "putchar")) (malloc_site P f.number k) small written
+    (call_plain P f.proc into args (built_in x) (called P x) h) (λ e g j. ap (λ b. calls P f.proc into args b (called P x)) (sym (none_built x e g j)) ∙ h) state

@@ -122,6 +122,13 @@ on_leads c d st into x args h e same running waiting there on =
 
 -- ---- a procedure is entered
 
+alone : (Q : Waiting → Type 0) (x : Waiting) → Q x → All Q (x ∷ [])
+alone Q x q = λ i z lt. at_place i z lt
+  where
+    at_place : (i : ℕ) (z : Waiting) → i < 1 → Q (slice_index_or (x ∷ []) i z)
+    at_place zero z lt = q
+    at_place (suc i) z lt = absurd (omega arith)
+
 -- the level that ran, as it waits
 abbrev pub caller : Core → Entered → Waiting
 caller c e = record { activation = c.running; at = c.at; vars = e.vars }
@@ -138,7 +145,7 @@ in_good c d st into x args e h t vars room same running waiting =
     good_of d c.program.now e.callee (c.waiting.items ++ caller c e ∷ []) same running waiting (fine_of c h.good) (record { proc = there; first = small }) room sound
     (All-append (IsWaiting c.program.now d.store.room.memory) c.waiting.items (caller c e ∷ [])
     (waiting_keeps c.program.now c.store.room.memory d.store.room.memory c.waiting.items keeps h.good.waiting)
-    (one (caller c e) (record {
+    (alone (IsWaiting c.program.now d.store.room.memory) (caller c e) (record {
       active = h.good.active;
       call = record { stmt = st; there = h.at; call = ap is_call h.form };
       whole = ap length vars ∙ h.good.room.whole;
@@ -146,14 +153,6 @@ in_good c d st into x args e h t vars room same running waiting =
           (fit_keeps c.running.proc.now c.store.room.memory d.store.room.memory (env_of c.running.proc.now c.store.room.vars.items) keeps h.good.state.fit);
       locals = λ i l at k. keeps (c.running.permit.first + i) (h.good.state.locals i l at k);
     })))
-  where
-    one : (w : Waiting) → IsWaiting c.program.now d.store.room.memory w → All (IsWaiting c.program.now d.store.room.memory) (w ∷ [])
-    one w q = λ i z lt. by_place w q i z lt
-
-    by_place : (w : Waiting) → IsWaiting c.program.now d.store.room.memory w → (i : ℕ) (z : Waiting) → i < 1 → IsWaiting c.program.now d.store.room.memory (slice_index_or (w ∷ []) i z)
-    by_place w q zero z lt = q
-    by_place w q (suc i) z lt = absurd (omega arith)
-
 pub in_leads : (c d : Core) (st : Stmt) (into : Option Name) (x : Name) (args : List AnyOperand) (e : Entered) → IsCalling c st into x args →
     called_turn c into x args ≡ Enters (frame e.callee) (state e.callee.proc.now d.store) → e.vars.items ≡ c.store.room.vars.items →
     d.program.now ≡ c.program.now → d.running ≡ e.callee → d.waiting.items ≡ c.waiting.items ++ caller c e ∷ [] → d.at ≡ 0 → d.ended ≡ None → Leads (stack_of c) answers.On (stack_of d)
