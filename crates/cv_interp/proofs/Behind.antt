@@ -20,6 +20,7 @@ use Rattle.cv_meaning.specs.Run.{Returned, into_of, resume, run}
 use Rattle.cv_interp.specs.declared.machine.Core.{Core}
 use Rattle.cv_interp.specs.declared.machine.Ended.{Ended}
 use Rattle.cv_interp.specs.declared.machine.Ended.TheVariants as ended
+use Rattle.cv_interp.specs.declared.machine.Turn.TheVariants as answers
 use Rattle.cv_interp.specs.declared.store.Activation.{Activation}
 use Rattle.cv_interp.specs.declared.store.Room.{Room}
 use Rattle.cv_interp.specs.declared.store.Store.{Store}
@@ -28,7 +29,7 @@ use Rattle.cv_interp.specs.Called.{IsInto}
 use Rattle.cv_interp.specs.Entered.{IsRoom}
 use Rattle.cv_interp.specs.Good.{IsActive, IsAtCall, IsGood, IsWaiting}
 use Rattle.cv_interp.specs.Level.{Level, Stack}
-use Rattle.cv_interp.specs.Machine.{answer_of, end, end_behind, form_held, form_of, frame_of, into_at, is_call, resumed, runs, seen, state_of}
+use Rattle.cv_interp.specs.Machine.{Outcome, answer_of, end, end_behind, form_held, form_of, frame_of, into_at, is_call, resumed, runs, seen, state_of, turn_of}
 use Rattle.cv_interp.specs.Seen.{frame, left, state}
 use Rattle.cv_interp.specs.Slots.{env_of, slot_names, with_values}
 use Rattle.cv_interp.specs.Sound.{IsState}
@@ -37,7 +38,7 @@ use Rattle.cv_interp.specs.Takes.{IsNear}
 use Rattle.cv_interp.proofs.Calling.{IsPlain, give_later, IsLater}
 use Rattle.cv_interp.proofs.Going.{state_same, waiting_keeps}
 use Rattle.cv_interp.proofs.Guests.{call_plain, call_slot}
-use Rattle.cv_interp.proofs.Leads.{end_open, end_returned, resumed_append}
+use Rattle.cv_interp.proofs.Leads.{end_open, end_returned, end_zero, resumed_append}
 use Rattle.cv_interp.proofs.Parts.{fine_of, good_of}
 
 -- ---- stacks
@@ -129,3 +130,16 @@ back_stands c d w v popped on same running there given n =
     resumes (stack_of c) (stack_of d) v (map waiting_level d.waiting.items) (waiting_level w)
     (ap (map waiting_level) popped ∙ map-append waiting_level d.waiting.items (w ∷ []))
     on same refl (ap frame running) (there ∙ next) (ap (λ (a : Activation). state a.proc.now d.store) running ∙ given) n
+
+pub back_turn : (c d : Core) (v : Option Value) → d.ended ≡ None → ((n : ℕ) → end (stack_of d) n ≡ end_behind (stack_of c) v n) → answers.On ≡ turn_of (end_behind (stack_of c) v 0).how
+back_turn c d v on stands = sym (ap (λ (o : Outcome). turn_of o.how) (sym (stands 0) ∙ end_zero (stack_of d) on))
+
+-- ---- the level that waited
+
+pub popped : (c : Core) (ws : List Waiting) (w : Waiting) → IsGood c → c.waiting.items ≡ ws ++ w ∷ [] →
+    All (IsWaiting c.program.now c.store.room.memory) ws × IsWaiting c.program.now c.store.room.memory w
+popped c ws w good e = All-pop (IsWaiting c.program.now c.store.room.memory) c.waiting.items ws (Some w) e good.waiting
+
+pub none_waits : (ws : List Waiting) → length ws ≡ 0 → ws ≡ []
+none_waits [] e = refl
+none_waits (w ∷ ws) e = absurd (omega arith)
