@@ -83,10 +83,12 @@ turn_is c st e t is h =
     ap (λ (f : Form). turn c.program.now (frame c.running) c.at f (state c.running.proc.now c.store)) is
     ∙ ap (λ v. leave c.program.now (frame c.running) v (state c.running.proc.now c.store)) (sym (option_same (state c.running.proc.now c.store) e)) ∙ h
 
-pub out_errs : (c d : Core) (st : Stmt) (e : Option AnyOperand) (kind : ErrKind) → c.ended ≡ None → slice_get (stmts_of c.running.proc.now.body) c.at ≡ Some st → st.form ≡ form.Return e →
-    leave c.program.now (frame c.running) (option_map (any_value (env_of c.running.proc.now c.store.room.vars.items)) e) (state c.running.proc.now c.store) ≡ Errs kind →
+pub out_errs : (c d : Core) (st : Stmt) (e : Option AnyOperand) (v : Option Value) (kind : ErrKind) → c.ended ≡ None → slice_get (stmts_of c.running.proc.now.body) c.at ≡ Some st → st.form ≡ form.Return e →
+    v ≡ option_map (any_value (env_of c.running.proc.now c.store.room.vars.items)) e → leave c.program.now (frame c.running) v (state c.running.proc.now c.store) ≡ Errs kind →
     d.ended ≡ Some (ended.Error kind c.running.number st.line) → d.store.output ≡ c.store.output → Leads (stack_of c) (answers.Error kind c.running.number st.line) (stack_of d)
-out_errs c d st e kind on at is h done out = fail_leads c d st kind on at (turn_is c st e (Errs kind) is h) done (ap (λ o. o.items) out)
+out_errs c d st e v kind on at is answer h done out =
+    fail_leads c d st kind on at
+    (turn_is c st e (Errs kind) is (ap (λ u. leave c.program.now (frame c.running) u (state c.running.proc.now c.store)) (sym answer) ∙ h)) done (ap (λ o. o.items) out)
 
 pub out_leads : (c b d : Core) (st : Stmt) (e : Option AnyOperand) (v : Option Value) (t : Answer) → c.ended ≡ None → slice_get (stmts_of c.running.proc.now.body) c.at ≡ Some st → st.form ≡ form.Return e →
     v ≡ option_map (any_value (env_of c.running.proc.now c.store.room.vars.items)) e →
