@@ -31,7 +31,7 @@ IsLater P f s t = IsState P f t × Keeps s.memory t.memory
 abbrev pub Leads_on : Program → Frame → State → Turn → Type 0
 Leads_on P f s (Errs kind) = Unit {0}
 Leads_on P f s (Goes j t) = IsLater P f s t
-Leads_on P f s (Enters g t) = IsState P g t × Keeps s.memory t.memory
+Leads_on P f s (Enters g t) = (slice_get P.procs g.number ≡ Some g.proc) × (g.permit.first ≡ length s.memory) × IsState P g t × Keeps s.memory t.memory
 Leads_on P f s (Leaves v t) = Unit {0}
 
 -- ---- destinations
@@ -61,7 +61,7 @@ give_later P f (Some x) v s plain near i = let n : IsNext P f s _ = assign_value
 
 -- ---- states that differ in the world and the output alone
 
-world_state : (P : Program) (f : Frame) (s : State) (w : _) (out : List ℕ) → IsState P f s → IsState P f (record s { world = w; output = out })
+pub world_state : (P : Program) (f : Frame) (s : State) (w : _) (out : List ℕ) → IsState P f s → IsState P f (record s { world = w; output = out })
 world_state P f s w out i = record { fit = i.fit; memory = i.memory; globals = i.globals; locals = i.locals }
 
 pub object_later : (P : Program) (f : Frame) (s : State) (y : Object) (w : _) → IsState P f s → IsObject y → IsLater P f s (record s { memory = s.memory ++ y ∷ []; world = w })

@@ -7,6 +7,7 @@ use Rattle.cv_core.specs.Limits.{first_limit}
 use Rattle.cv_core.specs.Names.{locals_of, stmts_of}
 use Rattle.cv_core.specs.declared.faults.ErrKind.{ErrKind}
 use Rattle.cv_core.specs.declared.program.Program.{Program}
+use Rattle.cv_core.specs.declared.program.Proc.{Proc}
 use Rattle.cv_core.specs.declared.program.Stmt.{Stmt}
 use Rattle.cv_core.specs.declared.program.Form.{Form}
 use Rattle.cv_core.specs.declared.program.Form.TheVariants as form
@@ -31,7 +32,7 @@ use Rattle.cv_interp.specs.Sound.{IsState, Keeps}
 use Rattle.cv_interp.specs.Stack.{stack_of, waiting_level}
 use Rattle.cv_interp.specs.Takes.{IsKept, IsReady, IsSmall}
 use Rattle.cv_interp.proofs.Leads as leads
-use Rattle.cv_interp.proofs.Limited.{few_locals, form_written}
+use Rattle.cv_interp.proofs.Limited.{few_locals, few_stmts, form_written, inside}
 use Rattle.cv_interp.proofs.Stepped.{IsNext, Nexts, ready, step_sound}
 use Rattle.cv_interp.proofs.Typed.{All_ok, fit_keeps}
 
@@ -159,3 +160,10 @@ go_ready c st good at =
     ready c.program.now c.running.proc.now (state c.running.proc.now c.store) st.form
     (good.program.statements c.running.number c.at c.running.proc.now st good.active.proc at).kinds
     (form_written c.program.now c.running.number c.at c.running.proc.now st good.written good.active.proc at) good.state.fit
+
+-- the number of a statement is small
+pub at_small : (P : Program) (i k : ℕ) (f : Proc) (st : Stmt) → first_limit P ≡ None → slice_get P.procs i ≡ Some f → slice_get (stmts_of f.body) k ≡ Some st → k < 1000
+at_small P i k f st e at there =
+    let few : length (stmts_of f.body) ≤ 1000 = few_stmts P i f e at in
+    let there_is : k < length (stmts_of f.body) = inside (stmts_of f.body) k st there in
+    omega arith

@@ -1,6 +1,6 @@
 -- A machine at the start of main: it is sound, and ends where the run of main does.
-use Rattle.std.proofs.Common.{◌≡◌, refl, sym, ap, subst, ◌∙◌, ℕ, ◌<◌, ◌≤◌, ◌^◌, Bool, true, false, List, [], ◌∷◌, length, map, Option, Some, None, arith}
-use Rattle.std.specs.Prelude.{All, slice_get, codes}
+use Rattle.std.proofs.Common.{◌≡◌, refl, sym, ap, subst, ◌∙◌, ℕ, ◌+◌, ◌<◌, ◌≤◌, ◌^◌, Bool, true, false, List, [], ◌∷◌, length, map, Option, Some, None, arith}
+use Rattle.std.specs.Prelude.{All, IsSome, slice_get, codes}
 use Rattle.std.specs.Option.{option_and_then}
 use Rattle.cv_core.specs.Grammar.{IsBody, IsLocal, IsProc, IsWritten}
 use Rattle.cv_core.specs.Limits.{first_limit}
@@ -16,7 +16,7 @@ use Rattle.cv_meaning.specs.declared.memory.World.{World}
 use Rattle.cv_meaning.specs.Call.{entered, may_enter}
 use Rattle.cv_meaning.specs.Contract.{Env}
 use Rattle.cv_meaning.specs.Look.{look}
-use Rattle.cv_meaning.specs.Memory.{Memory}
+use Rattle.cv_meaning.specs.Memory.{Memory, cell_at}
 use Rattle.cv_meaning.specs.Run.{End, Error, begin, begin_at, frame_of, run, run_main}
 use Rattle.cv_meaning.specs.State.{Frame, State, bind, make_locals, no_vars}
 use Rattle.cv_interp.specs.declared.machine.Core.{Core}
@@ -32,8 +32,8 @@ use Rattle.cv_interp.specs.Sound.{IsFit, IsState}
 use Rattle.cv_interp.specs.Stack.{stack_of, waiting_level}
 use Rattle.cv_interp.specs.Start.{HasFewBytes, fit, start_memory, start_values}
 use Rattle.cv_interp.proofs.Arriving.{IsEntered, locals_entered}
+use Rattle.cv_interp.proofs.Kept.{locals_cells}
 use Rattle.cv_interp.proofs.Limited.{all_at}
-use Rattle.cv_interp.proofs.Located.{has_locals}
 use Rattle.cv_interp.proofs.Started.{start_fit, start_globals, start_is_memory}
 
 -- ---- the run of main
@@ -113,7 +113,9 @@ first_is_sound P f args site w written limits few proc mains is =
       fit = h.fit;
       memory = h.memory;
       globals = λ i g at c. h.keeps i (start_globals P args i g at c);
-      locals = has_locals P site f.proc s f.permit.first (ap (λ (g : Frame). g.permit.first) is);
+      locals = λ i l at c.
+          subst (λ n. IsSome (cell_at (make_locals P site (locals_of f.proc.body) s).memory (n + i))) (sym (ap (λ (g : Frame). g.permit.first) is))
+          (locals_cells P (locals_of f.proc.body) l c site s i at);
     }
 
 pub start_good : (c : Core) (args : List Arg) (site : ℕ) (w : World) → IsSoundProgram c.program.now → first_limit c.program.now ≡ None → IsWritten c.program.now → All HasFewBytes args →

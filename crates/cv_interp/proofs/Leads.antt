@@ -81,7 +81,7 @@ plus_one : (n : ℕ) → 1 + n ≡ suc n
 plus_one n = omega arith
 
 -- the run of the level that runs, one step on
-end_by : (m : Stack) (n : ℕ) (st : Stmt) (t : Turn) → m.ended ≡ None → slice_get (stmts_of m.running.proc.body) m.running.at ≡ Some st →
+pub end_by : (m : Stack) (n : ℕ) (st : Stmt) (t : Turn) → m.ended ≡ None → slice_get (stmts_of m.running.proc.body) m.running.at ≡ Some st →
     turn m.program (frame_of m.running) m.running.at st.form (state_of m) ≡ t →
     end m (1 + n) ≡ seen (resumed m.program m.waiting (after m.program (runs m.program) (frame_of m.running) m.running.at st (state_of m) n t))
 end_by m n st t on at is =

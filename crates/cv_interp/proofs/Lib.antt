@@ -18,7 +18,14 @@ pub mod Running
 pub mod Calling
 pub mod Making
 pub mod Asked
-pub mod Located
 pub mod Started
 pub mod Launched
 pub mod Admitted
+pub mod Named
+pub mod Kept
+pub mod Guests
+pub mod Parts
+pub mod Behind
+pub mod Onward
+pub mod Outward
+pub mod Taking

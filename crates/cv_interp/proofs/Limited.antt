@@ -89,6 +89,10 @@ few_locals P i f e at =
     let h = ltb-false 200 (variable_count f) (any_at (λ (g : Proc). passes limit.Locals (variable_count g)) P.procs i f (none_at (is_passed P) tested 5 limit.Locals e refl) at) in
     omega arith
 
+pub few_stmts : (P : Program) (i : ℕ) (f : Proc) → first_limit P ≡ None → slice_get P.procs i ≡ Some f → length (stmts_of f.body) ≤ 1000
+few_stmts P i f e at =
+    ltb-false 1000 (length (stmts_of f.body)) (any_at (λ (g : Proc). passes limit.Statements (length (stmts_of g.body))) P.procs i f (none_at (is_passed P) tested 6 limit.Statements e refl) at)
+
 pub few_globals : (P : Program) → first_limit P ≡ None → length P.globals ≤ 256
 few_globals P e = ltb-false 256 (length P.globals) (none_at (is_passed P) tested 1 limit.Globals e refl)
 

@@ -2,6 +2,7 @@
 use Rattle.std.specs.Prelude.{ℕ, zero, suc, Bool, true, false, List, [], ◌∷◌, slice_get, Option, Some, None, ℤ, pos}
 use Rattle.cv_core.specs.Names.{Name, stmts_of}
 use Rattle.cv_core.specs.declared.program.Program.{Program}
+use Rattle.cv_core.specs.declared.program.Proc.{Proc}
 use Rattle.cv_core.specs.declared.program.Stmt.{Stmt}
 use Rattle.cv_core.specs.declared.program.Form.{Form}
 use Rattle.cv_core.specs.declared.program.Form.TheVariants as form
@@ -12,7 +13,7 @@ use Rattle.cv_meaning.specs.declared.memory.Value.TheVariants as value
 use Rattle.cv_meaning.specs.declared.memory.World.{World}
 use Rattle.cv_meaning.specs.Look.{look}
 use Rattle.cv_meaning.specs.State.{Frame, State}
-use Rattle.cv_meaning.specs.Run.{End, Stopped, Error, Returned, Runner, run, resume}
+use Rattle.cv_meaning.specs.Run.{End, Stopped, Error, Returned, Runner, into_of, run, resume}
 use Rattle.cv_interp.specs.declared.machine.Ended.{Ended}
 use Rattle.cv_interp.specs.declared.machine.Ended.TheVariants as ended
 use Rattle.cv_interp.specs.declared.machine.Turn.{Turn}
@@ -51,6 +52,10 @@ form_of l = form_held (slice_get (stmts_of l.proc.body) l.at)
 abbrev pub no_world : World
 no_world = record { input = []; fresh = []; allocations = []; answers = [] }
 
+-- the destination of the call at the statement k
+abbrev pub into_at : Proc → ℕ → Option Name
+into_at f k = into_of (form_held (slice_get (stmts_of f.body) k))
+
 -- the state of a level that waits: its variables; the rest comes with the return
 abbrev pub waiting_state : Level → State
 waiting_state l = record { vars = look l.vars; memory = []; world = no_world; output = [] }
@@ -76,6 +81,10 @@ end_from m (Some (ended.Returned z)) n = record { how = how.Returned z; output =
 -- after n more steps; a machine that has ended has that end for every n
 unfoldable pub end : Stack → ℕ → Outcome
 end m n = end_from m m.ended n
+
+-- where the level that runs has returned v with n steps left: those that wait go on
+abbrev pub end_behind : Stack → Option Value → ℕ → Outcome
+end_behind m v n = seen (resumed m.program m.waiting (Returned v m.memory n m.world m.output))
 
 -- what a step answers
 abbrev pub turn_of : RunEnd → Turn

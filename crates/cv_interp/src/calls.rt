@@ -1,5 +1,5 @@
 //! One step of a call.
-ghost use Rattle.std.specs.Prelude.{IfSome, IsSome, false, ◌≡◌, ◌+◌, ◌<◌, ◌≤◌, ◌^◌, ℕ, Err, IfOk, List, None, OnErr, Ok, Some, length, map, slice_get};
+ghost use Rattle.std.specs.Prelude.{IfSome, IsSome, false, ◌≡◌, ◌+◌, ◌<◌, ◌≤◌, ◌^◌, ℕ, Err, IfOk, List, None, OnErr, OnOk, Ok, Some, length, map, pos, slice_get};
 ghost use Rattle.std.specs.List.{list_all};
 ghost use Rattle.cv_core.specs.Limits.{first_limit};
 ghost use Rattle.cv_core.specs.Names.{locals_of as locals_in, local_site as local_site_of, malloc_site as malloc_site_of, place_of, stmts_of as stmts_in};
@@ -409,6 +409,7 @@ pub(crate) fn call<'a>(
     requires limits { first_limit p.now ≡ None }
     ensures ok { IfOk result (λ c. IsCalled a.now k (call_in p.now (frame a.now) k into.now x.now (map (any_value_in (env_of a.now.proc.now s.old.room.vars.items)) args.now) (state a.now.proc.now s.old)) s.old c s.new) }
     ensures err { OnErr result (IsSame s.old s.new) }
+    ensures int { OnOk result ((n : ℕ) → first_number_in (map (any_value_in (env_of a.now.proc.now s.old.room.vars.items)) args.now) ≡ pos n → n < 2 ^ 31) }
 {
     let values = values_of(alloc, a, s, args.as_slice())?;
     let site = Site {

@@ -1,5 +1,5 @@
 //! One step of a return.
-ghost use Rattle.std.specs.Prelude.{◌≡◌, ◌<◌, ◌≤◌, ◌^◌, Err, IfErr, Ok, OnOk, length};
+ghost use Rattle.std.specs.Prelude.{◌≡◌, ◌⊎◌, ◌<◌, ◌≤◌, ◌^◌, Err, IfErr, Ok, OnOk, length};
 ghost use Rattle.cv_meaning.specs.Call.{Errs, Leaves, is_own as is_own_in, leave as leave_in, left_memory, returnable as returnable_in, scene_of};
 ghost use Rattle.cv_meaning.specs.Contract.{ensures_hold};
 ghost use Rattle.cv_meaning.specs.Few.{AreFew};
@@ -81,6 +81,8 @@ pub(crate) fn leave(
     ensures ok { OnOk result (leave_in p.now (frame a.now) answer (state a.now.proc.now s.old) ≡ Leaves answer (state a.now.proc.now s.new)) }
     ensures err { IfErr result (λ e. leave_in p.now (frame a.now) answer (state a.now.proc.now s.old) ≡ Errs e) }
     ensures output { s.new.output ≡ s.old.output }
+    ensures vars { s.new.room.vars ≡ s.old.room.vars }
+    ensures memory { (s.new.room.memory ≡ s.old.room.memory) ⊎ (s.new.room.memory ≡ left_memory (frame a.now) s.old.room.memory) }
     ensures kept { IsKept s.old s.new }
 {
     returnable(a, &s.room.memory, answer)?;

@@ -1,9 +1,17 @@
 //! The machine.
-ghost use Rattle.std.specs.Prelude.{◌≡◌, ◌+◌, ◌<◌, ◌++◌, ◌∷◌, [], ℕ, vec_len, vec_capacity, All, IfErr, IfOk, IsOk, IsTrue, OnErr, OnOk, None, Some, false, slice_get, true};
+ghost use Rattle.std.specs.Prelude.{◌≡◌, ◌+◌, ◌<◌, ◌++◌, ◌∷◌, [], ℕ, vec_len, vec_capacity, All, IfErr, IfOk, IfSome, IsOk, IsTrue, List, OnErr, OnOk, None, Some, false, option_map, slice_get, true};
 ghost use Rattle.cv_core.specs.Limits.{first_limit};
 ghost use Rattle.cv_core.specs.WellFormed.{IsSoundProgram};
+ghost use Rattle.cv_meaning.specs.Call.{give as give_in};
 ghost use Rattle.cv_meaning.specs.Run.{run_main};
-ghost use Rattle.cv_interp.specs.Machine.{answer_of as answer_in, at_call, end, is_call, seen, turn_of as turn_at};
+ghost use Rattle.cv_meaning.specs.State.{Frame, any_value as any_value_in};
+ghost use Rattle.cv_meaning.specs.declared.memory.World.{World as WorldValue};
+ghost use Rattle.cv_interp.specs.Called.{IsInto};
+ghost use Rattle.cv_interp.specs.Entered.{IsRoom};
+ghost use Rattle.cv_interp.specs.Machine.{answer_of as answer_in, at_call, end, end_behind, into_at, is_call, seen, turn_of as turn_at};
+ghost use Rattle.cv_interp.specs.Seen.{state_in};
+ghost use Rattle.cv_interp.specs.Slots.{env_of};
+ghost use Rattle.cv_interp.specs.Takes.{IsNear};
 ghost use Rattle.cv_interp.specs.Good.{IsGood, Leads, ended_how, is_plain};
 ghost use Rattle.cv_interp.specs.Stack.{stack_of};
 ghost use Rattle.cv_core.specs.Names.{stmts_of as stmts_in};
@@ -127,7 +135,6 @@ fn go(core: &mut Core, stmt: &Stmt) -> Turn
     ensures good { IsGood core.new }
     ensures led { Leads (stack_of core.old) result (stack_of core.new) }
 {
-    let _count = stmts_of(core.running.proc).len();
     match step(
         core.program,
         &core.running,
@@ -170,7 +177,14 @@ fn go_into(
     f: &[u8],
     args: &List<AnyOperand>,
     line: u32,
-) -> Result<Turn, AllocError> {
+) -> Result<Turn, AllocError>
+    requires good { IsGood core.old }
+    requires on { core.old.ended ≡ None }
+    requires at { slice_get (stmts_in core.old.running.proc.now.body) core.old.at ≡ Some (record { line = line; form = Form.Call into.now f.now args.now }) }
+    ensures good { IsGood core.new }
+    ensures led { IfOk result (λ t. Leads (stack_of core.old) t (stack_of core.new)) }
+    ensures unchanged { OnErr result (stack_of core.new ≡ stack_of core.old) }
+{
     core.waiting.reserve(1)?;
     match call(
         core.alloc,
@@ -195,7 +209,12 @@ fn go_into(
 }
 
 /// Gives an answer to the destination of the call at a statement.
-fn give_at(p: &Program, f: &Proc, at: usize, answer: Option<Value>, room: &mut Room) {
+fn give_at(p: &Program, f: &Proc, at: usize, answer: Option<Value>, room: &mut Room)
+    requires slot { IsInto f.now (into_at f.now at) }
+    requires room { IsRoom f.now room.old }
+    ensures state { (g : Frame) (w : WorldValue) (out : List ℕ) → g.proc ≡ f.now → state_in f.now w out room.new ≡ give_in p.now g (into_at f.now at) answer (state_in f.now w out room.old) }
+    ensures room { IsRoom f.now room.new }
+{
     match stmts_of(f).get(at) {
         None => {}
         Some(stmt) => match &stmt.form {
@@ -206,7 +225,14 @@ fn give_at(p: &Program, f: &Proc, at: usize, answer: Option<Value>, room: &mut R
 }
 
 /// Goes on in the procedure that waits, or ends the machine where none does.
-fn go_back(core: &mut Core, answer: Option<Value>) -> Turn {
+fn go_back(core: &mut Core, answer: Option<Value>) -> Turn
+    requires good { IsGood core.old }
+    requires on { core.old.ended ≡ None }
+    requires near { IfSome answer IsNear }
+    ensures good { IsGood core.new }
+    ensures turn { result ≡ turn_at (end_behind (stack_of core.old) answer 0).how }
+    ensures stands { (n : ℕ) → end (stack_of core.new) n ≡ end_behind (stack_of core.old) answer n }
+{
     match core.waiting.pop() {
         None => {
             let end = Ended::Returned(answer_of(answer));
@@ -234,12 +260,25 @@ fn go_back(core: &mut Core, answer: Option<Value>) -> Turn {
     }
 }
 
-/// Takes a step of a return.
-fn go_out(core: &mut Core, e: &Option<AnyOperand>, line: u32) -> Turn {
-    let answer = match e {
+/// What a return of a procedure answers.
+fn answer_by(f: &Proc, vars: &[Value], e: &Option<AnyOperand>) -> Option<Value>
+    ensures { result ≡ option_map (any_value_in (env_of f.now vars.now)) e.now }
+{
+    match e {
         None => None,
-        Some(e) => Some(any_value(core.running.proc, core.store.room.vars.as_slice(), e)),
-    };
+        Some(e) => Some(any_value(f, vars, e)),
+    }
+}
+
+/// Takes a step of a return.
+fn go_out(core: &mut Core, e: &Option<AnyOperand>, line: u32) -> Turn
+    requires good { IsGood core.old }
+    requires on { core.old.ended ≡ None }
+    requires at { slice_get (stmts_in core.old.running.proc.now.body) core.old.at ≡ Some (record { line = line; form = Form.Return e.now }) }
+    ensures good { IsGood core.new }
+    ensures led { Leads (stack_of core.old) result (stack_of core.new) }
+{
+    let answer = answer_by(core.running.proc, core.store.room.vars.as_slice(), e);
     match leave(core.program, &core.running, answer, &mut core.store) {
         Err(kind) => fail(core, kind, line),
         Ok(()) => go_back(core, answer),
