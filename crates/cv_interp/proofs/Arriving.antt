@@ -54,10 +54,10 @@ argument_holds P f m vars k any.Null h t = λ c. tt
 argument_holds P f m vars k (any.Operand (operand.Number z)) h t = λ c. tt
 argument_holds P f m vars k (any.Operand (operand.Var x)) h t = variable_holds P f m vars k x h t
 
-abbrev Holds : Memory → VarKind → Value → Type 0
+abbrev pub Holds : Memory → VarKind → Value → Type 0
 Holds m k v = IsNear v × HoldsIf m k v
 
-either_holds : (m : Memory) (b : Bool) (k j : VarKind) (v w : Value) → Holds m k v → Holds m j w → Holds m (if b then k else j) (if b then v else w)
+pub either_holds : (m : Memory) (b : Bool) (k j : VarKind) (v w : Value) → Holds m k v → Holds m j w → Holds m (if b then k else j) (if b then v else w)
 either_holds m true k j v w p q = p
 either_holds m false k j v w p q = q
 

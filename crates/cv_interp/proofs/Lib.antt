@@ -18,6 +18,9 @@ pub mod Running
 pub mod Calling
 pub mod Making
 pub mod Asked
+pub mod Started
+pub mod Launched
+pub mod Admitted
 pub mod Named
 pub mod Kept
 pub mod Guests

@@ -67,11 +67,11 @@ append_old [] (suc i) y x e = absurd (cc)
 append_old (z ∷ m) zero y x e = e
 append_old (z ∷ m) (suc i) y x e = append_old m i y x e
 
-cell_of_object : (o : Option Object) (v : Value) → cell_held o ≡ Some v → (x : Object) × (o ≡ Some x) × (cell_in x.body ≡ Some v)
+pub cell_of_object : (o : Option Object) (v : Value) → cell_held o ≡ Some v → (x : Object) × (o ≡ Some x) × (cell_in x.body ≡ Some v)
 cell_of_object None v e = absurd (cc)
 cell_of_object (Some x) v e = (x, refl, e)
 
-some_cell : (o : Option Object) → IsSome (cell_held o) → (x : Object) × (o ≡ Some x) × IsSome (cell_in x.body)
+pub some_cell : (o : Option Object) → IsSome (cell_held o) → (x : Object) × (o ≡ Some x) × IsSome (cell_in x.body)
 some_cell None e = absurd (cc)
 some_cell (Some x) e = (x, refl, e)
 

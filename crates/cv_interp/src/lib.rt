@@ -9,7 +9,6 @@ mod items;
 mod leaving;
 mod machine;
 mod objects;
-mod probe;
 mod sites;
 mod slots;
 mod steps;

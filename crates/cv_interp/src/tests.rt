@@ -1,173 +1,354 @@
 //! Runs of small programs.
+ghost use Rattle.std.specs.Prelude.{◌≡◌, [], All, IfOk, OnOk};
+ghost use Rattle.cv_core.specs.Grammar.{IsAnyOperand, IsContract, IsDigits, IsForm, IsLocal, IsLocalBody, IsMaybeName, IsName, IsProc, IsStmt};
+ghost use Rattle.cv_interp.specs.Start.{HasFewBytes};
+
 use crate::{Arg, Machine, RunEnd, StartError, Turn};
 use cv_core::{
     AnyOperand, Bytes, Contract, ErrKind, Form, Formal, List, Local, LocalBody, Operand, Proc,
-    ProcBody, Program, ResultKind, Stmt, VarKind,
+    ProcBody, Program, ResultKind, Stmt, VarKind, check_limits, check_shape,
 };
 use cv_meaning::World;
 use std::alloc::{AllocError, Global};
 use std::test::Fail;
 
-fn name(alloc: Global, text: &[u8]) -> Result<Bytes, AllocError> {
-    Bytes::from_slice(alloc, text)
+// ---- pieces of programs, each as the grammar has it
+
+fn name(alloc: Global, text: &[u8]) -> Result<Bytes, AllocError>
+    ensures { IfOk result (λ b. b ≡ text.now) }
+{
+    let bytes = List::from_slice(alloc, text)?;
+    Ok(bytes)
 }
 
-fn nothing(alloc: Global) -> Contract {
+fn none<T>(alloc: Global) -> List<T>
+    ensures { result ≡ [] }
+{
+    List::new(alloc)
+}
+
+fn nothing(alloc: Global) -> Contract
+    ensures { IsContract result }
+{
     Contract {
-        listed: List::new(alloc),
-        needs: List::new(alloc),
-        changes: List::new(alloc),
-        gives: List::new(alloc),
+        listed: none(alloc),
+        needs: none(alloc),
+        changes: none(alloc),
+        gives: none(alloc),
     }
 }
 
-/// A procedure on line 1, with its statements on the lines 10, 11 and so on.
-fn procedure(
+/// Puts a local behind others.
+fn declare(
     alloc: Global,
+    locals: &mut List<Local>,
+    text: &[u8],
+    body: LocalBody,
+) -> Result<(), AllocError>
+    requires earlier { All IsLocal locals.old }
+    requires named { IsName text.now }
+    requires sized { IsLocalBody body }
+    ensures { OnOk result (All IsLocal locals.new) }
+{
+    let bytes = name(alloc, text)?;
+    locals.push(Local { name: bytes, body })?;
+    Ok(())
+}
+
+/// Puts a statement behind others.
+fn then(stmts: &mut List<Stmt>, line: u32, form: Form) -> Result<(), AllocError>
+    requires earlier { All IsStmt stmts.old }
+    requires numbered { IsDigits line }
+    requires written { IsForm form }
+    ensures { OnOk result (All IsStmt stmts.new) }
+{
+    stmts.push(Stmt { line, form })?;
+    Ok(())
+}
+
+/// Puts a procedure of line 1 behind others.
+fn define(
+    alloc: Global,
+    procs: &mut List<Proc>,
     answer: ResultKind,
     text: &[u8],
-    formals: Vec<Formal>,
-    locals: Vec<Local>,
-    forms: Vec<Form>,
-) -> Result<Proc, AllocError> {
-    let mut stmts = Vec::new(alloc);
-    let mut line = 10;
-    for form in forms {
-        stmts.push(Stmt { line, form })?;
-        line += 1;
-    }
-    Ok(Proc {
+    formals: List<Formal>,
+    locals: List<Local>,
+    stmts: List<Stmt>,
+) -> Result<(), AllocError>
+    requires earlier { All IsProc procs.old }
+    requires named { IsName text.now }
+    requires formals { All (λ x. IsName x.name) formals }
+    requires locals { All IsLocal locals }
+    requires stmts { All IsStmt stmts }
+    ensures { OnOk result (All IsProc procs.new) }
+{
+    let bytes = name(alloc, text)?;
+    procs.push(Proc {
         line: 1,
         answer,
-        name: name(alloc, text)?,
-        formals: List::from_vec(formals),
+        name: bytes,
+        formals,
         contract: nothing(alloc),
-        body: Some(ProcBody {
-            locals: List::from_vec(locals),
-            stmts: List::from_vec(stmts),
-        }),
-    })
+        body: Some(ProcBody { locals, stmts }),
+    })?;
+    Ok(())
 }
 
-fn program(alloc: Global, procs: Vec<Proc>) -> Program {
+fn program(alloc: Global, procs: List<Proc>) -> Program
+    requires { All IsProc procs }
+{
     Program {
-        globals: List::new(alloc),
-        literals: List::new(alloc),
-        procs: List::from_vec(procs),
+        globals: none(alloc),
+        literals: none(alloc),
+        procs,
     }
 }
 
+/// A program of main alone.
 fn main_alone(
     alloc: Global,
-    formals: Vec<Formal>,
-    locals: Vec<Local>,
-    forms: Vec<Form>,
-) -> Result<Program, AllocError> {
-    let main = procedure(
+    formals: List<Formal>,
+    locals: List<Local>,
+    stmts: List<Stmt>,
+) -> Result<Program, AllocError>
+    requires formals { All (λ x. IsName x.name) formals }
+    requires locals { All IsLocal locals }
+    requires stmts { All IsStmt stmts }
+{
+    let mut procs = none(alloc);
+    define(
         alloc,
+        &mut procs,
         ResultKind::Int,
         b"main".as_slice(),
         formals,
         locals,
-        forms,
+        stmts,
     )?;
-    Ok(program(alloc, vec![in alloc; main]?))
+    Ok(program(alloc, procs))
 }
 
-fn variable(alloc: Global, text: &[u8], kind: VarKind) -> Result<Local, AllocError> {
-    Ok(Local {
-        name: name(alloc, text)?,
-        body: LocalBody::Var(kind),
-    })
+/// A program of main, which calls f and returns 0, and of f before it.
+fn main_after(
+    alloc: Global,
+    answer: ResultKind,
+    locals: List<Local>,
+    stmts: List<Stmt>,
+) -> Result<Program, AllocError>
+    requires locals { All IsLocal locals }
+    requires stmts { All IsStmt stmts }
+{
+    let mut procs = none(alloc);
+    define(
+        alloc,
+        &mut procs,
+        answer,
+        b"f".as_slice(),
+        none(alloc),
+        locals,
+        stmts,
+    )?;
+    let mut steps = none(alloc);
+    then(
+        &mut steps,
+        10,
+        call(alloc, None, b"f".as_slice(), none(alloc))?,
+    )?;
+    then(&mut steps, 11, return_number(0))?;
+    define(
+        alloc,
+        &mut procs,
+        ResultKind::Int,
+        b"main".as_slice(),
+        none(alloc),
+        none(alloc),
+        steps,
+    )?;
+    Ok(program(alloc, procs))
 }
 
-fn quiet(alloc: Global, allocations: Vec<bool>) -> World {
-    World {
-        input: List::new(alloc),
-        fresh: List::new(alloc),
-        allocations: List::from_vec(allocations),
-        answers: List::new(alloc),
-    }
-}
-
-fn return_number(z: i32) -> Form {
+/// `return z;`
+fn return_number(z: i32) -> Form
+    ensures { IsForm result }
+{
     Form::Return(Some(AnyOperand::Operand(Operand::Number(z))))
 }
 
-fn return_variable(alloc: Global, x: &[u8]) -> Result<Form, AllocError> {
-    Ok(Form::Return(Some(AnyOperand::Operand(Operand::Var(name(alloc, x)?)))))
+/// `return x;`
+fn return_variable(alloc: Global, x: &[u8]) -> Result<Form, AllocError>
+    requires { IsName x.now }
+    ensures { IfOk result IsForm }
+{
+    let bytes = name(alloc, x)?;
+    Ok(Form::Return(Some(AnyOperand::Operand(Operand::Var(bytes)))))
 }
 
-fn call_of(
-    alloc: Global,
-    into: Option<&[u8]>,
-    f: &[u8],
-    args: Vec<AnyOperand>,
-) -> Result<Form, AllocError> {
-    Ok(Form::Call {
-        into: match into {
-            None => None,
-            Some(x) => Some(name(alloc, x)?),
-        },
-        f: name(alloc, f)?,
-        args: List::from_vec(args),
+/// `p = null;`
+fn null_into(alloc: Global, p: &[u8]) -> Result<Form, AllocError>
+    requires { IsName p.now }
+    ensures { IfOk result IsForm }
+{
+    let to = name(alloc, p)?;
+    Ok(Form::CopyPtr { p: to, q: None })
+}
+
+/// `p = &a;`
+fn address(alloc: Global, p: &[u8], a: &[u8]) -> Result<Form, AllocError>
+    requires pointer { IsName p.now }
+    requires object { IsName a.now }
+    ensures { IfOk result IsForm }
+{
+    let to = name(alloc, p)?;
+    let object = name(alloc, a)?;
+    Ok(Form::Address { p: to, object })
+}
+
+/// `x = load p;`
+fn load(alloc: Global, x: &[u8], p: &[u8]) -> Result<Form, AllocError>
+    requires to { IsName x.now }
+    requires from { IsName p.now }
+    ensures { IfOk result IsForm }
+{
+    let to = name(alloc, x)?;
+    let from = name(alloc, p)?;
+    Ok(Form::Load { x: to, p: from })
+}
+
+/// `store p, z;`
+fn store(alloc: Global, p: &[u8], z: i32) -> Result<Form, AllocError>
+    requires { IsName p.now }
+    ensures { IfOk result IsForm }
+{
+    let to = name(alloc, p)?;
+    Ok(Form::Store {
+        p: to,
+        e: Operand::Number(z),
     })
 }
 
-fn number(z: i32) -> AnyOperand {
-    AnyOperand::Operand(Operand::Number(z))
+fn call(
+    alloc: Global,
+    into: Option<Bytes>,
+    f: &[u8],
+    args: List<AnyOperand>,
+) -> Result<Form, AllocError>
+    requires to { IsMaybeName into }
+    requires callee { IsName f.now }
+    requires passed { All IsAnyOperand args }
+    ensures { IfOk result IsForm }
+{
+    let callee = name(alloc, f)?;
+    Ok(Form::Call {
+        into,
+        f: callee,
+        args,
+    })
 }
 
+/// The argument that is this number.
+fn number(alloc: Global, z: i32) -> Result<List<AnyOperand>, AllocError>
+    ensures { IfOk result (λ args. All IsAnyOperand args) }
+{
+    let mut args = none(alloc);
+    args.push(AnyOperand::Operand(Operand::Number(z)))?;
+    Ok(args)
+}
+
+// ---- machines
+
+fn quiet(alloc: Global) -> World {
+    World {
+        input: none(alloc),
+        fresh: none(alloc),
+        allocations: none(alloc),
+        answers: none(alloc),
+    }
+}
+
+/// A machine for a program that is well formed and within its limits.
+fn machine<'a>(
+    alloc: Global,
+    p: &'a Program,
+    args: &[Arg],
+    world: World,
+) -> Result<Machine<'a>, StartError>
+    requires { All HasFewBytes args.now }
+{
+    let Ok(()) = check_shape(alloc, p) else {
+        return Err(StartError::Memory);
+    };
+    let Ok(()) = check_limits(p) else {
+        return Err(StartError::Memory);
+    };
+    Machine::start(alloc, p, args, world)
+}
+
+// ---- the tests
+
 #[test]
-fn returns_and_stops(rt: HostRuntime) -> Result<(), Fail> {
+fn returns_and_stays(rt: HostRuntime) -> Result<(), Fail> {
     let alloc = rt.alloc();
-    let p = main_alone(
-        alloc,
-        Vec::new(alloc),
-        Vec::new(alloc),
-        vec![in alloc; return_number(7)]?,
-    )?;
-    let mut m = Machine::start(alloc, &p, &[], quiet(alloc, Vec::new(alloc)))?;
+    let mut stmts = none(alloc);
+    then(&mut stmts, 10, return_number(7))?;
+    let p = main_alone(alloc, none(alloc), none(alloc), stmts)?;
+    let mut m = machine(alloc, &p, &[], quiet(alloc))?;
     assert_eq!(rt; m.run(0)?, RunEnd::Stopped);
     assert_eq!(rt; m.step()?, Turn::Returned(7));
     assert_eq!(rt; m.step()?, Turn::Returned(7));
     assert_eq!(rt; m.run(0)?, RunEnd::Returned(7));
-    let p = main_alone(
-        alloc,
-        Vec::new(alloc),
-        Vec::new(alloc),
-        vec![in alloc; Form::Goto(0)]?,
-    )?;
-    let mut m = Machine::start(alloc, &p, &[], quiet(alloc, Vec::new(alloc)))?;
+    Ok(())
+}
+
+#[test]
+fn stops(rt: HostRuntime) -> Result<(), Fail> {
+    let alloc = rt.alloc();
+    let mut stmts = none(alloc);
+    then(&mut stmts, 10, Form::Goto(0))?;
+    let p = main_alone(alloc, none(alloc), none(alloc), stmts)?;
+    let mut m = machine(alloc, &p, &[], quiet(alloc))?;
     assert_eq!(rt; m.run(1000)?, RunEnd::Stopped);
     assert_eq!(rt; m.run(1000)?, RunEnd::Stopped);
     assert_eq!(rt; m.step()?, Turn::On);
     Ok(())
 }
 
+/// Writes a byte, and then reads through null.
+fn null_read(alloc: Global) -> Result<Program, AllocError> {
+    let mut locals = none(alloc);
+    declare(
+        alloc,
+        &mut locals,
+        b"p".as_slice(),
+        LocalBody::Var(VarKind::Ptr),
+    )?;
+    declare(
+        alloc,
+        &mut locals,
+        b"x".as_slice(),
+        LocalBody::Var(VarKind::Int),
+    )?;
+    let mut stmts = none(alloc);
+    then(
+        &mut stmts,
+        10,
+        call(alloc, None, b"putchar".as_slice(), number(alloc, 321)?)?,
+    )?;
+    then(&mut stmts, 11, null_into(alloc, b"p".as_slice())?)?;
+    then(
+        &mut stmts,
+        12,
+        load(alloc, b"x".as_slice(), b"p".as_slice())?,
+    )?;
+    then(&mut stmts, 13, return_number(0))?;
+    main_alone(alloc, none(alloc), locals, stmts)
+}
+
 #[test]
 fn errs_and_stays(rt: HostRuntime) -> Result<(), Fail> {
     let alloc = rt.alloc();
-    let locals = vec![in alloc;
-        variable(alloc, b"p", VarKind::Ptr)?,
-        variable(alloc, b"x", VarKind::Int)?,
-    ]?;
-    let out = call_of(alloc, None, b"putchar", vec![in alloc; number(321)]?)?;
-    let to_null = Form::CopyPtr {
-        p: name(alloc, b"p")?,
-        q: None,
-    };
-    let read = Form::Load {
-        x: name(alloc, b"x")?,
-        p: name(alloc, b"p")?,
-    };
-    let p = main_alone(
-        alloc,
-        Vec::new(alloc),
-        locals,
-        vec![in alloc; out, to_null, read, return_number(0)]?,
-    )?;
-    let mut m = Machine::start(alloc, &p, &[], quiet(alloc, Vec::new(alloc)))?;
+    let p = null_read(alloc)?;
+    let mut m = machine(alloc, &p, &[], quiet(alloc))?;
     let end = RunEnd::Error {
         kind: ErrKind::Null,
         proc: 0,
@@ -180,39 +361,59 @@ fn errs_and_stays(rt: HostRuntime) -> Result<(), Fail> {
     Ok(())
 }
 
+/// Returns a byte of the input.
+fn one_byte(alloc: Global) -> Result<Program, AllocError> {
+    let mut locals = none(alloc);
+    declare(
+        alloc,
+        &mut locals,
+        b"x".as_slice(),
+        LocalBody::Var(VarKind::Int),
+    )?;
+    let mut stmts = none(alloc);
+    let into = name(alloc, b"x".as_slice())?;
+    then(
+        &mut stmts,
+        10,
+        call(alloc, Some(into), b"getchar".as_slice(), none(alloc))?,
+    )?;
+    then(&mut stmts, 11, return_variable(alloc, b"x".as_slice())?)?;
+    main_alone(alloc, none(alloc), locals, stmts)
+}
+
+/// Stores into a buffer of one byte, which it makes.
+fn one_store(alloc: Global) -> Result<Program, AllocError> {
+    let mut locals = none(alloc);
+    declare(
+        alloc,
+        &mut locals,
+        b"p".as_slice(),
+        LocalBody::Var(VarKind::Ptr),
+    )?;
+    let mut stmts = none(alloc);
+    let into = name(alloc, b"p".as_slice())?;
+    then(
+        &mut stmts,
+        10,
+        call(alloc, Some(into), b"malloc".as_slice(), number(alloc, 1)?)?,
+    )?;
+    then(&mut stmts, 11, store(alloc, b"p".as_slice(), 5)?)?;
+    then(&mut stmts, 12, return_number(3))?;
+    main_alone(alloc, none(alloc), locals, stmts)
+}
+
 #[test]
 fn input_and_memory(rt: HostRuntime) -> Result<(), Fail> {
     let alloc = rt.alloc();
-    let locals = vec![in alloc; variable(alloc, b"x", VarKind::Int)?]?;
-    let read = call_of(alloc, Some(b"x".as_slice()), b"getchar", Vec::new(alloc))?;
-    let p = main_alone(
-        alloc,
-        Vec::new(alloc),
-        locals,
-        vec![in alloc; read, return_variable(alloc, b"x")?]?,
-    )?;
-    let mut m = Machine::start(alloc, &p, &[], quiet(alloc, Vec::new(alloc)))?;
+    let p = one_byte(alloc)?;
+    let mut m = machine(alloc, &p, &[], quiet(alloc))?;
     assert_eq!(rt; m.run(9)?, RunEnd::Returned(-1));
-    let locals = vec![in alloc; variable(alloc, b"p", VarKind::Ptr)?]?;
-    let make = call_of(
-        alloc,
-        Some(b"p".as_slice()),
-        b"malloc",
-        vec![in alloc; number(1)]?,
-    )?;
-    let store = Form::Store {
-        p: name(alloc, b"p")?,
-        e: Operand::Number(5),
-    };
-    let p = main_alone(
-        alloc,
-        Vec::new(alloc),
-        locals,
-        vec![in alloc; make, store, return_number(3)]?,
-    )?;
-    let mut m = Machine::start(alloc, &p, &[], quiet(alloc, Vec::new(alloc)))?;
+    let p = one_store(alloc)?;
+    let mut m = machine(alloc, &p, &[], quiet(alloc))?;
     assert_eq!(rt; m.run(9)?, RunEnd::Returned(3));
-    let mut m = Machine::start(alloc, &p, &[], quiet(alloc, vec![in alloc; false]?))?;
+    let mut world = quiet(alloc);
+    world.allocations.push(false)?;
+    let mut m = machine(alloc, &p, &[], world)?;
     assert_eq!(rt;
         m.run(9)?,
         RunEnd::Error {
@@ -225,64 +426,46 @@ fn input_and_memory(rt: HostRuntime) -> Result<(), Fail> {
 }
 
 #[test]
-fn calls_and_returns(rt: HostRuntime) -> Result<(), Fail> {
+fn calls_without_end(rt: HostRuntime) -> Result<(), Fail> {
     let alloc = rt.alloc();
-    let again = procedure(
-        alloc,
-        ResultKind::Void,
-        b"f",
-        Vec::new(alloc),
-        Vec::new(alloc),
-        vec![in alloc;
-            call_of(alloc, None, b"f", Vec::new(alloc))?,
-            Form::Return(None),
-        ]?,
+    let mut stmts = none(alloc);
+    then(
+        &mut stmts,
+        10,
+        call(alloc, None, b"f".as_slice(), none(alloc))?,
     )?;
-    let main = procedure(
-        alloc,
-        ResultKind::Int,
-        b"main",
-        Vec::new(alloc),
-        Vec::new(alloc),
-        vec![in alloc;
-            call_of(alloc, None, b"f", Vec::new(alloc))?,
-            return_number(0),
-        ]?,
-    )?;
-    let p = program(alloc, vec![in alloc; again, main]?);
-    let mut m = Machine::start(alloc, &p, &[], quiet(alloc, Vec::new(alloc)))?;
+    then(&mut stmts, 11, Form::Return(None))?;
+    let p = main_after(alloc, ResultKind::Void, none(alloc), stmts)?;
+    let mut m = machine(alloc, &p, &[], quiet(alloc))?;
     assert_eq!(rt; m.run(50)?, RunEnd::Stopped);
-    let buffer = Local {
-        name: name(alloc, b"b")?,
-        body: LocalBody::Buffer(4),
-    };
-    let own = procedure(
+    Ok(())
+}
+
+/// f returns its own buffer.
+fn own_buffer(alloc: Global) -> Result<Program, AllocError> {
+    let mut locals = none(alloc);
+    declare(alloc, &mut locals, b"b".as_slice(), LocalBody::Buffer(4))?;
+    declare(
         alloc,
-        ResultKind::Ptr,
-        b"f",
-        Vec::new(alloc),
-        vec![in alloc; buffer, variable(alloc, b"p", VarKind::Ptr)?]?,
-        vec![in alloc;
-            Form::Address {
-                p: name(alloc, b"p")?,
-                object: name(alloc, b"b")?
-            },
-            return_variable(alloc, b"p")?,
-        ]?,
+        &mut locals,
+        b"p".as_slice(),
+        LocalBody::Var(VarKind::Ptr),
     )?;
-    let main = procedure(
-        alloc,
-        ResultKind::Int,
-        b"main",
-        Vec::new(alloc),
-        Vec::new(alloc),
-        vec![in alloc;
-            call_of(alloc, None, b"f", Vec::new(alloc))?,
-            return_number(0),
-        ]?,
+    let mut stmts = none(alloc);
+    then(
+        &mut stmts,
+        10,
+        address(alloc, b"p".as_slice(), b"b".as_slice())?,
     )?;
-    let p = program(alloc, vec![in alloc; own, main]?);
-    let mut m = Machine::start(alloc, &p, &[], quiet(alloc, Vec::new(alloc)))?;
+    then(&mut stmts, 11, return_variable(alloc, b"p".as_slice())?)?;
+    main_after(alloc, ResultKind::Ptr, locals, stmts)
+}
+
+#[test]
+fn returns_a_dead_object(rt: HostRuntime) -> Result<(), Fail> {
+    let alloc = rt.alloc();
+    let p = own_buffer(alloc)?;
+    let mut m = machine(alloc, &p, &[], quiet(alloc))?;
     assert_eq!(rt;
         m.run(50)?,
         RunEnd::Error {
@@ -294,30 +477,41 @@ fn calls_and_returns(rt: HostRuntime) -> Result<(), Fail> {
     Ok(())
 }
 
+/// Returns the first byte of its argument.
+fn first_byte(alloc: Global) -> Result<Program, AllocError> {
+    let mut formals = none(alloc);
+    let formal = name(alloc, b"s".as_slice())?;
+    formals.push(Formal {
+        kind: VarKind::Ptr,
+        name: formal,
+    })?;
+    let mut locals = none(alloc);
+    declare(
+        alloc,
+        &mut locals,
+        b"x".as_slice(),
+        LocalBody::Var(VarKind::Char),
+    )?;
+    let mut stmts = none(alloc);
+    then(
+        &mut stmts,
+        10,
+        load(alloc, b"x".as_slice(), b"s".as_slice())?,
+    )?;
+    then(&mut stmts, 11, return_variable(alloc, b"x".as_slice())?)?;
+    main_alone(alloc, formals, locals, stmts)
+}
+
 #[test]
 fn arguments(rt: HostRuntime) -> Result<(), Fail> {
     let alloc = rt.alloc();
-    let formal = Formal {
-        kind: VarKind::Ptr,
-        name: name(alloc, b"s")?,
-    };
-    let locals = vec![in alloc; variable(alloc, b"x", VarKind::Char)?]?;
-    let read = Form::Load {
-        x: name(alloc, b"x")?,
-        p: name(alloc, b"s")?,
-    };
-    let p = main_alone(
-        alloc,
-        vec![in alloc; formal]?,
-        locals,
-        vec![in alloc; read, return_variable(alloc, b"x")?]?,
-    )?;
-    let none = Machine::start(alloc, &p, &[], quiet(alloc, Vec::new(alloc)));
-    assert!(rt; matches!(none, Err(StartError::Args)));
-    let other = Machine::start(alloc, &p, &[Arg::Int(0)], quiet(alloc, Vec::new(alloc)));
+    let p = first_byte(alloc)?;
+    let none_given = machine(alloc, &p, &[], quiet(alloc));
+    assert!(rt; matches!(none_given, Err(StartError::Args)));
+    let other = machine(alloc, &p, &[Arg::Int(0)], quiet(alloc));
     assert!(rt; matches!(other, Err(StartError::Args)));
-    let text = Arg::Text(List::new(alloc));
-    let mut m = Machine::start(alloc, &p, &[text], quiet(alloc, Vec::new(alloc)))?;
+    let text = Arg::Text(none(alloc));
+    let mut m = machine(alloc, &p, &[text], quiet(alloc))?;
     assert_eq!(rt; m.run(2)?, RunEnd::Returned(0));
     Ok(())
 }
