@@ -18,6 +18,8 @@ use Rattle.cv_meaning.specs.declared.memory.Value.{Value}
 use Rattle.cv_meaning.specs.State.{Frame, State, any_value}
 use Rattle.cv_meaning.specs.Call.{Turn, Errs, Goes, Enters, call, first_number}
 use Rattle.cv_meaning.specs.Run.{turn}
+use Rattle.cv_interp.specs.declared.calls.Called.{Called}
+use Rattle.cv_interp.specs.declared.calls.Called.TheVariants as called
 use Rattle.cv_interp.specs.declared.calls.Entered.{Entered}
 use Rattle.cv_interp.specs.declared.machine.Core.{Core}
 use Rattle.cv_interp.specs.declared.machine.Ended.{Ended}
@@ -27,7 +29,7 @@ use Rattle.cv_interp.specs.declared.store.Activation.{Activation}
 use Rattle.cv_interp.specs.declared.store.Room.{Room}
 use Rattle.cv_interp.specs.declared.store.Store.{Store}
 use Rattle.cv_interp.specs.declared.store.Waiting.{Waiting}
-use Rattle.cv_interp.specs.Called.{IsInto, IsSame}
+use Rattle.cv_interp.specs.Called.{IsCalled, IsInto, IsSame}
 use Rattle.cv_interp.specs.Entered.{IsRoom}
 use Rattle.cv_interp.specs.Good.{IsActive, IsAtCall, IsGood, IsWaiting, Leads}
 use Rattle.cv_interp.specs.Machine.{end, is_call, turn_of}
@@ -165,3 +167,32 @@ in_leads c d st into x args e h t vars same running waiting there on =
     leads.enters (stack_of c) (stack_of d) st (frame e.callee) (state e.callee.proc.now d.store) h.on h.at (turn_is c st into x args h.form ∙ t)
     on same below (ap frame running) there (ap (λ (a : Activation). state a.proc.now d.store) running) in
     record { turn = sym (ap turn_of (leads.on_now (stack_of c) (stack_of d) on stands)); stands = stands }
+
+-- ---- the three ends of a call
+
+pub as_errs : (a : Activation) (k : ℕ) (turn : Turn) (s t : Store) (d : Called) (kind : ErrKind) → d ≡ called.Errs kind → IsCalled a k turn s d t → (turn ≡ Errs kind) × IsSame s t
+as_errs a k turn s t d kind e h = subst (λ (x : Called). IsCalled a k turn s x t) e h
+
+pub as_goes : (a : Activation) (k : ℕ) (turn : Turn) (s t : Store) (d : Called) → d ≡ called.Goes → IsCalled a k turn s d t → (turn ≡ Goes (suc k) (state a.proc.now t)) × IsRoom a.proc.now t.room
+as_goes a k turn s t d e h = subst (λ (x : Called). IsCalled a k turn s x t) e h
+
+pub as_enters : (a : Activation) (k : ℕ) (turn : Turn) (s t : Store) (d : Called) (g : Entered) → d ≡ called.Enters g → IsCalled a k turn s d t →
+    (turn ≡ Enters (frame g.callee) (state g.callee.proc.now t)) × (g.vars.items ≡ s.room.vars.items) × IsRoom g.callee.proc.now t.room
+as_enters a k turn s t d g e h = subst (λ (x : Called). IsCalled a k turn s x t) e h
+
+-- the statement that is a call
+abbrev pub call_stmt : ℕ → Option Name → Name → List AnyOperand → Stmt
+call_stmt line into x args = record { line = line; form = form.Call into x args }
+
+pub entered_good : (c d : Core) (line : ℕ) (into : Option Name) (x : Name) (args : List AnyOperand) (e : Entered) (t : Store) → IsCalling c (call_stmt line into x args) into x args →
+    (called_turn c into x args ≡ Enters (frame e.callee) (state e.callee.proc.now t)) × (e.vars.items ≡ c.store.room.vars.items) × IsRoom e.callee.proc.now t.room → d.store ≡ t →
+    d.program.now ≡ c.program.now → d.running ≡ e.callee → d.waiting.items ≡ c.waiting.items ++ caller c e ∷ [] → IsGood d
+entered_good c d line into x args e t h (turn, vars, room) store same running waiting =
+    in_good c d (call_stmt line into x args) into x args e h (turn ∙ ap (λ (s : Store). Enters (frame e.callee) (state e.callee.proc.now s)) (sym store)) vars
+    (subst (λ (s : Store). IsRoom e.callee.proc.now s.room) (sym store) room) same running waiting
+
+pub entered_leads : (c d : Core) (line : ℕ) (into : Option Name) (x : Name) (args : List AnyOperand) (e : Entered) (t : Store) → IsCalling c (call_stmt line into x args) into x args →
+    (called_turn c into x args ≡ Enters (frame e.callee) (state e.callee.proc.now t)) × (e.vars.items ≡ c.store.room.vars.items) × IsRoom e.callee.proc.now t.room → d.store ≡ t →
+    d.program.now ≡ c.program.now → d.running ≡ e.callee → d.waiting.items ≡ c.waiting.items ++ caller c e ∷ [] → d.at ≡ 0 → d.ended ≡ None → Leads (stack_of c) answers.On (stack_of d)
+entered_leads c d line into x args e t h (turn, vars, room) store same running waiting there on =
+    in_leads c d (call_stmt line into x args) into x args e h (turn ∙ ap (λ (s : Store). Enters (frame e.callee) (state e.callee.proc.now s)) (sym store)) vars same running waiting there on

@@ -69,6 +69,8 @@ pub(crate) struct Site<'b> {
     pub(crate) k: usize,
     pub(crate) into: &'b Option<Bytes>,
     pub(crate) args: &'b [Value],
+    /// The first of the arguments as a number; 0 where there is none.
+    pub(crate) first: i32,
 }
 
 fn first_number(args: &[Value]) -> i32
@@ -101,10 +103,10 @@ fn malloc<'a>(
     requires room { IsRoom a.now.proc.now s.old.room }
     requires active { IsActive p.now a.now }
     requires place { site.now.k ≤ length (stmts_in a.now.proc.now.body) }
-    ensures ok { IfOk result (λ c. IsCalled a.now site.now.k (malloc_in p.now (first_number_in site.now.args.now) (malloc_site_of p.now a.now.number site.now.k) (frame a.now) site.now.k site.now.into.now (state a.now.proc.now s.old)) s.old c s.new) }
+    ensures ok { IfOk result (λ c. IsCalled a.now site.now.k (malloc_in p.now site.now.first (malloc_site_of p.now a.now.number site.now.k) (frame a.now) site.now.k site.now.into.now (state a.now.proc.now s.old)) s.old c s.new) }
     ensures err { OnErr result (IsSame s.old s.new) }
 {
-    let size = first_number(site.args);
+    let size = site.first;
     if size < 0 {
         return Ok(Called::Errs(ErrKind::Requires));
     }
@@ -142,10 +144,10 @@ fn putchar<'a>(
 ) -> Result<Called<'a>, AllocError>
     requires slot { IsInto a.now.proc.now site.now.into.now }
     requires room { IsRoom a.now.proc.now s.old.room }
-    ensures ok { IfOk result (λ c. IsCalled a.now site.now.k (putchar_in p.now (first_number_in site.now.args.now) (frame a.now) site.now.k site.now.into.now (state a.now.proc.now s.old)) s.old c s.new) }
+    ensures ok { IfOk result (λ c. IsCalled a.now site.now.k (putchar_in p.now site.now.first (frame a.now) site.now.k site.now.into.now (state a.now.proc.now s.old)) s.old c s.new) }
     ensures err { OnErr result (IsSame s.old s.new) }
 {
-    let byte = low_byte(first_number(site.args));
+    let byte = low_byte(site.first);
     s.output.push(byte)?;
     given(p, a, site, Value::Int(i32::from(byte)), s);
     Ok(Called::Goes)
@@ -416,6 +418,7 @@ pub(crate) fn call<'a>(
         k,
         into,
         args: values.as_slice(),
+        first: first_number(values.as_slice()),
     };
     if x == b"malloc".as_slice() {
         malloc(alloc, p, a, &site, s)

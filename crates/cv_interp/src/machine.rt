@@ -155,8 +155,8 @@ fn go(core: &mut Core, stmt: &Stmt) -> Turn
 /// Runs a procedure that was entered; its caller waits. There is room for one more that waits.
 fn enter<'a>(core: &mut Core<'a>, entered: Entered<'a>)
     requires { vec_len core.old.waiting < vec_capacity core.old.waiting }
-    ensures waiting { core.new.waiting.items ≡ core.old.waiting.items ++ record { activation = core.old.running; at = core.old.at; vars = entered.vars } ∷ [] }
-    ensures running { core.new.running ≡ entered.callee }
+    ensures waiting { core.new.waiting.items ≡ core.old.waiting.items ++ record { activation = core.old.running; at = core.old.at; vars = entered.entry.vars } ∷ [] }
+    ensures running { core.new.running ≡ entered.entry.callee }
     ensures at { core.new.at ≡ 0 }
     ensures rest { (core.new.program ≡ core.old.program) × (core.new.store ≡ core.old.store) × (core.new.ended ≡ core.old.ended) }
 {
