@@ -1,6 +1,6 @@
 -- A machine at the start of main: it is sound, and ends where the run of main does.
 use Rattle.std.proofs.Common.{◌≡◌, refl, sym, ap, subst, ◌∙◌, ℕ, ◌+◌, ◌<◌, ◌≤◌, ◌^◌, Bool, true, false, List, [], ◌∷◌, length, map, Option, Some, None, arith}
-use Rattle.std.specs.Prelude.{All, IsSome, slice_get, codes}
+use Rattle.std.specs.Prelude.{All, IsSome, if◌then◌else◌, slice_get, codes}
 use Rattle.std.specs.Option.{option_and_then}
 use Rattle.cv_core.specs.Grammar.{IsBody, IsLocal, IsProc, IsWritten}
 use Rattle.cv_core.specs.Limits.{first_limit}
@@ -30,7 +30,7 @@ use Rattle.cv_interp.specs.Seen.{frame, state}
 use Rattle.cv_interp.specs.Slots.{env_of}
 use Rattle.cv_interp.specs.Sound.{IsFit, IsState}
 use Rattle.cv_interp.specs.Stack.{stack_of, waiting_level}
-use Rattle.cv_interp.specs.Start.{HasFewBytes, fit, start_memory, start_values}
+use Rattle.cv_interp.specs.Start.{HasFewBytes, IsMain, fit, start_memory, start_values}
 use Rattle.cv_interp.proofs.Arriving.{IsEntered, locals_entered}
 use Rattle.cv_interp.proofs.Kept.{locals_cells}
 use Rattle.cv_interp.proofs.Limited.{all_at}
@@ -89,6 +89,13 @@ starts_refused c i main args m w place there output done is may = λ n.
     errs_from c n i main.line output done
     ∙ ap seen (sym (refuses n c.program.now (entered c.program.now i main args m) m w (sym (ap (may_enter c.program.now) is) ∙ may)))
     ∙ ap seen (sym (main_begins n c.program.now i main args m w place there))
+
+pub starts_or_errs : (c : Core) (i : ℕ) (main : Proc) (args : List Value) (m : Memory) (w : World) (b : Bool) → IsMain c.program.now i main → c.waiting.items ≡ [] → c.at ≡ 0 →
+    c.store.output.items ≡ [] → may_enter c.program.now (frame c.running) ≡ b → c.ended ≡ (if b then None else Some (ended.Error err.Requires i main.line)) →
+    frame c.running ≡ entered c.program.now i main args m → state c.running.proc.now c.store ≡ first_state c.program.now (frame c.running) m w →
+    (n : ℕ) → end (stack_of c) n ≡ seen (run_main n c.program.now args m w)
+starts_or_errs c i main args m w true is none at output may on same first = starts c i main args m w is.place is.there none at on same first may
+starts_or_errs c i main args m w false is none at output may done same first = starts_refused c i main args m w is.place is.there output done same may
 
 -- ---- it is sound
 

@@ -32,6 +32,11 @@ formals_of (Some f) = f.formals
 abbrev pub main_of : Program → Option Proc
 main_of P = option_and_then (λ i. slice_get P.procs i) (place_of (λ g. g.name) (codes "main") P.procs)
 
+-- the procedure i is main
+pub record IsMain (P : Program) (i : ℕ) (main : Proc) : Type 0 where
+  pub place : place_of (λ g. g.name) (codes "main") P.procs ≡ Some i
+  pub there : slice_get P.procs i ≡ Some main
+
 abbrev pub fits_kind : VarKind → Arg → Bool
 fits_kind kind.Int (arg.Int z) = true
 fits_kind kind.Ptr (arg.Text bytes) = true

@@ -1,14 +1,23 @@
 //! Where a run of main begins.
-ghost use Rattle.std.specs.Prelude.{◌≡◌, ◌+◌, ◌++◌, ◌∷◌, [], ◌≤◌, ◌<◌, ◌^◌, All, IfOk, OnOk, length, replicate, true};
+ghost use Rattle.std.specs.Prelude.{◌≡◌, ◌+◌, ◌++◌, ◌∷◌, [], ◌≤◌, ◌<◌, ◌^◌, All, IfOk, IfSome, OnOk, OnSome, length, map, replicate, true};
+ghost use Rattle.cv_core.specs.Grammar.{IsWritten};
+ghost use Rattle.cv_core.specs.Names.{local_site as local_site_of, locals_of as locals_in};
 ghost use Rattle.cv_meaning.specs.Clean.{literal_objects};
+ghost use Rattle.cv_meaning.specs.Look.{look};
 ghost use Rattle.cv_meaning.specs.Memory.{IsShort};
+ghost use Rattle.cv_meaning.specs.State.{make_locals as make_locals_in};
 ghost use Rattle.cv_meaning.specs.declared.memory.Body.TheVariants.{Buffer};
+ghost use Rattle.cv_interp.specs.Entered.{IsRoom};
 ghost use Rattle.cv_interp.specs.Made.{IsMade};
-ghost use Rattle.cv_interp.specs.Start.{HasFewBytes, arg_values, fit as fit_in, fits_kind as fits_kind_in, global_body as global_body_in, global_objects, out_objects, start_memory, start_values};
+ghost use Rattle.cv_interp.specs.Seen.{state_in};
+ghost use Rattle.cv_interp.specs.Start.{HasFewBytes, IsMain, arg_values, fit as fit_in, fits_kind as fits_kind_in, global_body as global_body_in, global_objects, out_objects, start_memory, start_values};
 
-use crate::entering::make;
-use cv_core::{Bytes, Formal, GlobalBody, GlobalDecl, List, Literal, Program, VarKind};
-use cv_meaning::{Arg, Body, Mem, Ptr, Value};
+use crate::calls::proc_place;
+use crate::entering::{furnished, make};
+use crate::sites::local_site;
+use crate::store::{Room, Taken};
+use cv_core::{Bytes, Formal, GlobalBody, GlobalDecl, List, Literal, Proc, Program, VarKind};
+use cv_meaning::{Arg, Body, Mem, NamedValue, Ptr, Value, World};
 use std::alloc::{AllocError, Global};
 use thiserror::Error;
 
@@ -29,6 +38,19 @@ impl From<AllocError> for StartError {
 
     fn from(_error: AllocError) -> StartError {
         StartError::Memory
+    }
+}
+
+/// The number of main, and main; none also where the number is no 32-bit number.
+pub(crate) fn main_of(p: &Program) -> Option<(u32, &Proc)>
+    ensures main { IfSome result (λ m. IsMain p.now m.0 m.1.now) }
+    ensures written { OnSome result (IsWritten p.now) }
+{
+    let i = proc_place(p.procs.as_slice(), b"main")?;
+    let main = p.procs.get(i)?;
+    match u32::try_from(i) {
+        Err(_) => None,
+        Ok(number) => Some((number, main)),
     }
 }
 
@@ -220,4 +242,33 @@ pub(crate) fn beginning(
     make_literals(alloc, p.literals.as_slice(), site, &mut made)?;
     make_args(alloc, args, &mut made, values)?;
     Ok(made)
+}
+
+/// The room of main at its start, where nothing of the world is taken; the memory is a copy.
+pub(crate) fn first_room(
+    alloc: Global,
+    p: &Program,
+    number: u32,
+    main: &Proc,
+    formals: &List<NamedValue>,
+    memory: &Mem,
+    count: u64,
+    w: &World,
+) -> Result<Room, AllocError>
+    requires names { map (λ n. n.name) formals.now ≡ map (λ f. f.name) main.now.formals }
+    requires count { count ≡ length memory.now }
+    requires few { count ≤ 2 ^ 62 }
+    ensures state { IfOk result (λ room. state_in main.now w.now [] room ≡ make_locals_in p.now (local_site_of p.now number) (locals_in main.now.body) (record { vars = look formals.now; memory = memory.now; world = w.now; output = [] })) }
+    ensures room { IfOk result (λ room. IsRoom main.now room) }
+{
+    let Some(site) = local_site(p, number as usize) else {
+        return Err(AllocError);
+    };
+    let taken = Taken {
+        input: 0,
+        fresh: 0,
+        allocations: 0,
+        answers: 0,
+    };
+    furnished(alloc, p, main, site, formals, memory, count, w, taken)
 }

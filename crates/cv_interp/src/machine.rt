@@ -1,13 +1,15 @@
 //! The machine.
-ghost use Rattle.std.specs.Prelude.{◌≡◌, ◌+◌, ◌<◌, ◌++◌, ◌∷◌, [], ℕ, vec_len, vec_capacity, All, IfErr, IfOk, IfSome, IsOk, IsTrue, List, OnErr, OnOk, None, Some, false, option_map, slice_get, true};
+ghost use Rattle.std.specs.Prelude.{◌≡◌, ◌+◌, ◌<◌, ◌++◌, ◌∷◌, [], ℕ, vec_len, vec_capacity, All, IfErr, IfOk, IfSome, IsOk, IsTrue, List, OnErr, OnOk, None, Some, false, if◌then◌else◌, map, option_map, slice_get, true};
+ghost use Rattle.cv_core.specs.Grammar.{IsWritten};
 ghost use Rattle.cv_core.specs.Limits.{first_limit};
 ghost use Rattle.cv_core.specs.WellFormed.{IsSoundProgram};
-ghost use Rattle.cv_meaning.specs.Call.{give as give_in};
+ghost use Rattle.cv_meaning.specs.Call.{give as give_in, may_enter as may_enter_in};
+ghost use Rattle.cv_meaning.specs.Few.{AreFew};
 ghost use Rattle.cv_meaning.specs.Run.{run_main};
 ghost use Rattle.cv_meaning.specs.State.{Frame, any_value as any_value_in};
 ghost use Rattle.cv_meaning.specs.declared.memory.World.{World as WorldValue};
 ghost use Rattle.cv_interp.specs.Called.{IsInto};
-ghost use Rattle.cv_interp.specs.Entered.{IsRoom};
+ghost use Rattle.cv_interp.specs.Entered.{IsRoom, arrived};
 ghost use Rattle.cv_interp.specs.Machine.{answer_of as answer_in, at_call, end, end_behind, into_at, is_call, seen, turn_of as turn_at};
 ghost use Rattle.cv_interp.specs.Seen.{state_in};
 ghost use Rattle.cv_interp.specs.Slots.{env_of};
@@ -15,18 +17,18 @@ ghost use Rattle.cv_interp.specs.Takes.{IsNear};
 ghost use Rattle.cv_interp.specs.Good.{IsGood, Leads, ended_how, is_plain};
 ghost use Rattle.cv_interp.specs.Stack.{stack_of};
 ghost use Rattle.cv_core.specs.Names.{stmts_of as stmts_in};
-ghost use Rattle.cv_interp.specs.Start.{HasFewBytes, IsRefusal, are_mains, start_memory, start_values};
+ghost use Rattle.cv_interp.specs.Start.{HasFewBytes, IsMain, IsRefusal, are_mains, fit as fit_in, start_memory, start_values};
 
-use crate::begin::{Made, StartError, beginning, fit};
-use crate::calls::{Called, Entered, call, give, proc_place};
-use crate::entering::{Guest, furnished, guest_of, may_enter};
+use crate::begin::{Made, StartError, beginning, first_room, fit, main_of};
+use crate::calls::{Called, Entered, call, give};
+use crate::entering::{Guest, guest_of, may_enter};
 use crate::leaving::leave;
-use crate::sites::{local_site, stmts_of};
+use crate::sites::stmts_of;
 use crate::slots::any_value;
 use crate::steps::step;
-use crate::store::{Activation, Room, Store, Taken, Waiting};
+use crate::store::{Activation, Room, Store, Waiting};
 use cv_core::{AnyOperand, Bytes, ErrKind, Form, List, Proc, Program, Stmt};
-use cv_meaning::{Arg, RunEnd, Value, World};
+use cv_meaning::{Arg, Mem, RunEnd, Value, World};
 use std::alloc::{AllocError, Global};
 use std::marker::Model;
 use std::mem;
@@ -320,6 +322,70 @@ fn take(core: &mut Core) -> Result<Turn, AllocError>
     }
 }
 
+/// How a machine ends that may not enter main; none where it may.
+fn barred(p: &Program, number: u32, main: &Proc, guest: &Guest, memory: &Mem) -> Option<Ended>
+    requires few { AreFew main.now.contract }
+    requires names { map (λ n. n.name) guest.now.formals ≡ map (λ f. f.name) main.now.formals }
+    ensures { result ≡ (if may_enter_in p.now (arrived number main.now guest.now memory.now) then None else Some (Ended.Error ErrKind.Requires number main.now.line)) }
+{
+    if may_enter(p, main, guest, memory) {
+        return None;
+    }
+    Some(Ended::Error {
+        kind: ErrKind::Requires,
+        proc: number,
+        line: main.line,
+    })
+}
+
+/// Enters main, or ends where its requires does not hold.
+fn first_core<'a>(
+    alloc: Global,
+    program: &'a Program,
+    number: u32,
+    main: &'a Proc,
+    args: &[Arg],
+    world: World,
+) -> Result<Core<'a>, AllocError>
+    requires well_formed { IsSoundProgram program.now }
+    requires limits { first_limit program.now ≡ None }
+    requires texts { All HasFewBytes args.now }
+    requires written { IsWritten program.now }
+    requires main { IsMain program.now number main.now }
+    requires kinds { fit_in main.now.formals args.now ≡ true }
+    ensures good { IfOk result (λ c. IsGood c) }
+    ensures started { IfOk result (λ c. (n : ℕ) → end (stack_of c) n ≡ seen (run_main n program.now (start_values program.now args.now) (start_memory program.now args.now) world)) }
+{
+    let mut values = List::new(alloc);
+    let Made { memory, count } = beginning(alloc, program, args, &mut values)?;
+    let guest = guest_of(alloc, program, main, values.as_slice(), &memory, count)?;
+    let ended = barred(program, number, main, &guest, &memory);
+    let formals = &guest.formals;
+    let room = first_room(
+        alloc, program, number, main, formals, &memory, count, &world,
+    )?;
+    let Guest { formals, permit } = guest;
+    Ok(Core {
+        alloc,
+        program,
+        waiting: Vec::new(alloc),
+        running: Activation {
+            number,
+            proc: main,
+            formals,
+            entry: memory,
+            permit,
+        },
+        at: 0,
+        store: Store {
+            room,
+            world,
+            output: Vec::new(alloc),
+        },
+        ended,
+    })
+}
+
 impl<'a> Machine<'a> {
     /// A machine at the start of main. The globals are 0 and null; a text is a buffer of its bytes and a zero byte, and
     /// its formal points to the first of them. Conditions: the program is well formed and within its limits; a text has
@@ -337,73 +403,13 @@ impl<'a> Machine<'a> {
         ensures mains { OnOk result (IsTrue (are_mains program.now args.now)) }
         ensures refused { IfErr result (IsRefusal program.now args.now) }
     {
-        let procs = program.procs.as_slice();
-        let Some(i) = proc_place(procs, b"main") else {
-            return Err(StartError::Memory);
-        };
-        let Some(main) = program.procs.get(i) else {
+        let Some((number, main)) = main_of(program) else {
             return Err(StartError::Memory);
         };
         if !fit(main.formals.as_slice(), args) {
             return Err(StartError::Args);
         }
-        let Ok(number) = u32::try_from(i) else {
-            return Err(StartError::Memory);
-        };
-        let mut values = List::new(alloc);
-        let Made { memory, count } = beginning(alloc, program, args, &mut values)?;
-        let guest = guest_of(alloc, program, main, values.as_slice(), &memory, count)?;
-        let fits = may_enter(program, main, &guest, &memory);
-        let Some(site) = local_site(program, i) else {
-            return Err(StartError::Memory);
-        };
-        let taken = Taken {
-            input: 0,
-            fresh: 0,
-            allocations: 0,
-            answers: 0,
-        };
-        let room = furnished(
-            alloc,
-            program,
-            main,
-            site,
-            &guest.formals,
-            &memory,
-            count,
-            &world,
-            taken,
-        )?;
-        let Guest { formals, permit } = guest;
-        let running = Activation {
-            number,
-            proc: main,
-            formals,
-            entry: memory,
-            permit,
-        };
-        let ended = if fits {
-            None
-        } else {
-            Some(Ended::Error {
-                kind: ErrKind::Requires,
-                proc: number,
-                line: main.line,
-            })
-        };
-        let core = Core {
-            alloc,
-            program,
-            waiting: Vec::new(alloc),
-            running,
-            at: 0,
-            store: Store {
-                room,
-                world,
-                output: Vec::new(alloc),
-            },
-            ended,
-        };
+        let core = first_core(alloc, program, number, main, args, world)?;
         Ok(Machine { core })
     }
 

@@ -16,13 +16,12 @@ returns-clause-ok c = λ i.
     let tried = c.in-Ok.ensures in
     let fits : FitsSigned w32 c.in-Ok.answer = subst (λ (z : ℤ). FitsSigned w32 z) (sym tried.1) tried.0 in
     let wide : FitsSigned w64 c.extern_answer.result = search rules in
-    let given = simp to_z-of_z at c.given.ensures.state in
-    (
+    let given = simp to_z-of_z at c.given.ensures.state in (
       asks c.args.p.now (frame c.args.a.now) (arrived i c.args.g.now c.args.guest.now c.args.s.now.room.memory) c.args.site.now.k c.args.site.now.into.now (state c.args.a.now.proc.now c.args.s.now)
-      c.in-Ok.answer c.requires.outside c.requires.none (tried.1 ∙ to_z-of_z w64 c.extern_answer.result wide ∙ c.extern_answer.ensures)
-      ∙ ap (λ (s : State). Goes (suc c.args.site.now.k) s)
-      (sym (given
-      ∙ ap (λ (w : World). give c.args.p.now (frame c.args.a.now) c.args.site.now.into.now (Some (value.Int c.in-Ok.answer)) (record (state c.args.a.now.proc.now c.args.s.now) { world = w }))
-      c.after_answer-s.ensures)),
+          c.in-Ok.answer c.requires.outside c.requires.none (tried.1 ∙ to_z-of_z w64 c.extern_answer.result wide ∙ c.extern_answer.ensures)
+          ∙ ap (λ (s : State). Goes (suc c.args.site.now.k) s)
+          (sym (given
+          ∙ ap (λ (w : World). give c.args.p.now (frame c.args.a.now) c.args.site.now.into.now (Some (value.Int c.in-Ok.answer)) (record (state c.args.a.now.proc.now c.args.s.now) { world = w }))
+          c.after_answer-s.ensures)),
       c.given.ensures.room,
     )

@@ -24,19 +24,18 @@ guest_of-requires-clause-literals c = few_literals c.args.p.now c.requires.limit
 pub returns-then-not-may_enter-clause-ok : goal.returns-then-not-may_enter-clause-ok
 returns-then-not-may_enter-clause-ok c = (
   calls_refused c.args.p.now (frame c.args.a.now) (arrived c.args.number c.args.g.now c.in_ok-guest.guest c.args.s.now.room.memory)
-  (entered c.args.p.now c.args.number c.args.g.now c.args.site.now.args.now c.args.s.now.room.memory) c.args.site.now.k c.args.site.now.into.now (state c.args.a.now.proc.now c.args.s.now)
-  (c.in_ok-guest.ensures.arrived c.args.number) (let t = c.if-not-may_enter.true in sym (c.may_enter.ensures c.args.number) ∙ t),
+      (entered c.args.p.now c.args.number c.args.g.now c.args.site.now.args.now c.args.s.now.room.memory) c.args.site.now.k c.args.site.now.into.now (state c.args.a.now.proc.now c.args.s.now)
+      (c.in_ok-guest.ensures.arrived c.args.number) (let t = c.if-not-may_enter.true in sym (c.may_enter.ensures c.args.number) ∙ t),
   record { room = refl; world = refl; output = refl },
 )
 
 pub returns-in-Err-clause-ok : goal.returns-in-Err-clause-ok
 returns-in-Err-clause-ok c =
-    let e : Frame = arrived c.args.number c.args.g.now c.in_ok-guest.guest c.args.s.now.room.memory in
-    (
+    let e : Frame = arrived c.args.number c.args.g.now c.in_ok-guest.guest c.args.s.now.room.memory in (
       calls_barred c.args.p.now (frame c.args.a.now) e
-      (entered c.args.p.now c.args.number c.args.g.now c.args.site.now.args.now c.args.s.now.room.memory) c.args.site.now.k c.args.site.now.into.now (state c.args.a.now.proc.now c.args.s.now)
-      c.in-Err.kind (c.in_ok-guest.ensures.arrived c.args.number) (let t = c.if-not-may_enter.false in sym (c.may_enter.ensures c.args.number) ∙ t)
-      (ap (λ (os : List ℕ). permitted {A = Unit {0}} c.args.a.now.permit os (Ok tt)) (sym c.as_slice.ensures) ∙ sym c.permitted.ensures ∙ c.in-Err.is),
+          (entered c.args.p.now c.args.number c.args.g.now c.args.site.now.args.now c.args.s.now.room.memory) c.args.site.now.k c.args.site.now.into.now (state c.args.a.now.proc.now c.args.s.now)
+          c.in-Err.kind (c.in_ok-guest.ensures.arrived c.args.number) (let t = c.if-not-may_enter.false in sym (c.may_enter.ensures c.args.number) ∙ t)
+          (ap (λ (os : List ℕ). permitted {A = Unit {0}} c.args.a.now.permit os (Ok tt)) (sym c.as_slice.ensures) ∙ sym c.permitted.ensures ∙ c.in-Err.is),
       record { room = refl; world = refl; output = refl },
     )
 

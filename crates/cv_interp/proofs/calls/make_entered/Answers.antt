@@ -22,12 +22,11 @@ returns-clause-ok c =
     ap (state_in c.args.g.now c.args.s.now.world c.args.s.now.output.items) c.replace-vars.ensures.after
     ∙ same_output c.args.p.now c.args.g.now c.args.s.now.world c.args.s.now.output.items c.in_ok-inner.inner c.in-Some.site (locals_of c.args.g.now.body) (look c.args.guest.formals)
     c.args.s.now.room.memory (left c.args.s.now.world c.args.s.now.room.taken) c.in_ok-inner.ensures.state in
-    let site : c.in-Some.site ≡ local_site c.args.p.now c.args.number = c.in-Some.ensures in
-    (
+    let site : c.in-Some.site ≡ local_site c.args.p.now c.args.number = c.in-Some.ensures in (
       enters c.args.p.now (frame c.args.a.now) e c.args.place.now.k c.args.place.now.into.now c.args.g.now.body (state c.args.a.now.proc.now c.args.s.now) c.requires.body
-      ∙ ap (Enters e) (ap (λ (n : ℕ). make_locals c.args.p.now n (locals_of c.args.g.now.body) start) (sym site) ∙ sym inner)
-      ∙ ap (λ (m : Memory). Enters (record e { entry = m }) (state c.args.g.now (record c.args.s.now { room = c.replace-vars.new.dest })))
-      (sym (ap (λ (r : Room). r.memory) c.replace-vars.ensures.value)),
+          ∙ ap (Enters e) (ap (λ (n : ℕ). make_locals c.args.p.now n (locals_of c.args.g.now.body) start) (sym site) ∙ sym inner)
+          ∙ ap (λ (m : Memory). Enters (record e { entry = m }) (state c.args.g.now (record c.args.s.now { room = c.replace-vars.new.dest })))
+          (sym (ap (λ (r : Room). r.memory) c.replace-vars.ensures.value)),
       ap (λ (r : Room). r.vars.items) c.replace-vars.ensures.value,
       subst (λ (r : Room). IsRoom c.args.g.now r) (sym c.replace-vars.ensures.after) c.in_ok-inner.ensures.room,
     )
