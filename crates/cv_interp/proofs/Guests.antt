@@ -124,10 +124,10 @@ by_name : (P : Program) (f : Frame) (x : Name) (k : ℕ) (into : Option Name) (a
     ((n : ℕ) → first_number (map (any_value s.vars) args) ≡ pos n → n < 2 ^ 31) → IsWritten P → IsPlain f.proc into →
     (a ≡ false → b ≡ false → d ≡ false → calls P f.proc into args None (called P x) ≡ true) → IsState P f s →
     Leads_on P f s (
-      if a then malloc P (first_number (map (any_value s.vars) args)) site f k into s
-      else if b then getchar P f k into s
-      else if d then putchar P (first_number (map (any_value s.vars) args)) f k into s
-      else call_named P f k into (place_of (λ h. h.name) x P.procs) (map (any_value s.vars) args) s
+    if a then malloc P (first_number (map (any_value s.vars) args)) site f k into s
+    else if b then getchar P f k into s
+    else if d then putchar P (first_number (map (any_value s.vars) args)) f k into s
+    else call_named P f k into (place_of (λ h. h.name) x P.procs) (map (any_value s.vars) args) s
     )
 by_name P f x k into args s true b d site small written plain h state = malloc_later P (first_number (map (any_value s.vars) args)) site f k into s small plain state
 by_name P f x k into args s false true d site small written plain h state = getchar_later P f k into s plain state

@@ -155,6 +155,7 @@ in_good c d st into x args e h t vars room same running waiting =
           (fit_keeps c.running.proc.now c.store.room.memory d.store.room.memory (env_of c.running.proc.now c.store.room.vars.items) keeps h.good.state.fit);
       locals = λ i l at k. keeps (c.running.permit.first + i) (h.good.state.locals i l at k);
     })))
+
 pub in_leads : (c d : Core) (st : Stmt) (into : Option Name) (x : Name) (args : List AnyOperand) (e : Entered) → IsCalling c st into x args →
     called_turn c into x args ≡ Enters (frame e.callee) (state e.callee.proc.now d.store) → e.vars.items ≡ c.store.room.vars.items →
     d.program.now ≡ c.program.now → d.running ≡ e.callee → d.waiting.items ≡ c.waiting.items ++ caller c e ∷ [] → d.at ≡ 0 → d.ended ≡ None → Leads (stack_of c) answers.On (stack_of d)

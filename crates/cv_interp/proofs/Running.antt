@@ -48,10 +48,10 @@ on_now (how.Returned y) h = absurd (cc)
 
 -- ---- the run of `steps` steps, of which i and one more were taken, from a to b and on to d
 
-other_error : (e : RunEnd) (kind : _) (proc line : ℕ) → e ≡ how.Error kind proc line → e ≡ how.Stopped → ⊥
+pub other_error : (e : RunEnd) (kind : _) (proc line : ℕ) → e ≡ how.Error kind proc line → e ≡ how.Stopped → ⊥
 other_error e kind proc line h k = cc
 
-other_returned : (e : RunEnd) (z : _) → e ≡ how.Returned z → e ≡ how.Stopped → ⊥
+pub other_returned : (e : RunEnd) (z : _) → e ≡ how.Returned z → e ≡ how.Stopped → ⊥
 other_returned e z h k = cc
 
 -- where the step ended the machine, the run ends so

@@ -1,6 +1,7 @@
 -- A step of a machine that has ended, or that stands behind its last statement.
-use Rattle.std.proofs.Common.{◌≡◌, refl, sym, ap, ◌∙◌, ℕ, ◌+◌, Bool, true, false, Option, Some, None}
+use Rattle.std.proofs.Common.{◌≡◌, refl, sym, ap, subst, ◌∙◌, ℕ, zero, suc, ◌+◌, ◌<◌, ◌≤◌, Bool, true, false, List, [], ◌∷◌, length, get_or, Option, Some, None, arith}
 use Rattle.std.specs.Prelude.{slice_get}
+use Rattle.std.proofs.lemmas.Option.{slice_get-get_or}
 use Rattle.cv_core.specs.Names.{stmts_of}
 use Rattle.cv_core.specs.declared.program.Stmt.{Stmt}
 use Rattle.cv_interp.specs.declared.machine.Core.{Core}
@@ -13,6 +14,22 @@ use Rattle.cv_interp.specs.Machine.{at_call, end, form_held, is_call, stands_at_
 use Rattle.cv_interp.specs.Stack.{stack_of}
 use Rattle.cv_interp.proofs.Leads as leads
 use Rattle.cv_interp.proofs.Running.{ended_leads}
+
+-- ---- the statement of a place
+
+pub got : (xs ys : List Stmt) (i : ℕ) (x : Stmt) → xs ≡ ys → i < length xs → x ≡ get_or xs i x → slice_get ys i ≡ Some x
+got xs ys i x e lt is = subst (λ (zs : List Stmt). slice_get zs i ≡ Some x) e (slice_get-get_or xs i x lt ∙ ap Some (sym is))
+
+past : (xs : List Stmt) (i : ℕ) → length xs ≤ i → slice_get xs i ≡ None
+past [] zero le = refl
+past [] (suc i) le = refl
+past (x ∷ xs) zero le = absurd (omega arith)
+past (x ∷ xs) (suc i) le = let h : length xs ≤ i = omega arith in past xs i h
+
+pub none_got : (xs ys : List Stmt) (i : ℕ) → xs ≡ ys → length xs ≤ i → slice_get ys i ≡ None
+none_got xs ys i e le = subst (λ (zs : List Stmt). slice_get zs i ≡ None) e (past xs i le)
+
+-- ---- where it leads
 
 pub none_leads : (c : Core) → c.ended ≡ None → slice_get (stmts_of c.running.proc.now.body) c.at ≡ None → Leads (stack_of c) answers.On (stack_of c)
 none_leads c on at =

@@ -1,9 +1,0 @@
-use Rattle.cv_interp.proofs.Named.{called_is}
-use Rattle.cv_interp.proofs.Kept.{locals_cells}
-use Rattle.cv_interp.proofs.Guests.{call_later}
-use Rattle.cv_interp.proofs.Parts.{good_of}
-use Rattle.cv_interp.proofs.Behind.{back_good}
-use Rattle.cv_interp.proofs.Onward.{in_good}
-use Rattle.cv_interp.proofs.Outward.{out_good}
-use Rattle.cv_interp.proofs.Taking.{none_leads}
-use Rattle.cv_interp.proofs.Running.{leads_turn}
