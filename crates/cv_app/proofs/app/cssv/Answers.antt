@@ -32,4 +32,4 @@ returns-in-Unknown-clause-errs g c =
     subst (λ (command : Command). RefusesBy command c.report.result (g.E.Sink.content c.args.errs.now) (g.E.Sink.content c.report.new.errs)
     (g.E.Sink.faults c.args.errs.now) (g.E.Sink.faults c.report.new.errs)) c.in-Unknown.ensures
     (refuses_reported Unknown (refused 2 usage_text) c.report.result (g.E.Sink.content c.args.errs.now) (g.E.Sink.content c.report.new.errs)
-    (g.E.Sink.faults c.args.errs.now) (g.E.Sink.faults c.report.new.errs) (lit≤ tt) (inl (refl, refl)) (inr (refl, refl)) c.report.ensures)
+    (g.E.Sink.faults c.args.errs.now) (g.E.Sink.faults c.report.new.errs) (lit≤ tt) (lit≤ tt) (inl (refl, refl)) (inr (refl, refl)) c.report.ensures)

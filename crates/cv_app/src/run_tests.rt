@@ -1,0 +1,150 @@
+//! What `run` answers, by tables from outside.
+
+use super::*;
+use cv_io::{MemSink, MemSource, SteadyStore};
+use std::alloc::{AllocError, Global};
+use std::process::Abort;
+use std::test::Fail;
+
+const STRAIGHT: &str =
+    "1: proc int main()\n{\nbuf b 4;\nptr p;\n2: p = &b;\n3: p = p + 3;\n4: store p, 0;\n5: return 0;\n}\n";
+
+const INC: &str =
+    "1: proc int main(int n)\nrequires n >= 0, n <= 9;\nensures result == pre(n) + 1;\n{\n3: n = n + 1;\n4: return n;\n}\n";
+
+const DOWN: &str =
+    "1: proc int down(int n)\nrequires n >= 0;\nensures result == 0;\n{\n2: if n == 0 goto 4;\n3: n = n - 1;\n4: n = call down(n);\n5: return n;\n6: return 0;\n}\n7: proc int main()\n{\nint x;\n8: x = call down(5);\n9: return x;\n}\n";
+
+const TEXT: &str =
+    "1: proc int main(ptr s)\n{\nint n;\nint z;\n2: n = 0;\n3: if load s == 0 goto 5;\n4: n = n + 1;\n5: s = s + 1;\n6: goto 1;\n7: return n;\n}\n";
+
+const ECHO: &str =
+    "1: proc int main()\n{\nint c;\n2: c = call getchar();\n3: if c < 0 goto 4;\n4: call putchar(c);\n5: goto 0;\n6: return c;\n}\n";
+
+const PAST: &str =
+    "1: proc int main()\n{\nbuf b 2;\nptr p;\n2: call putchar(111);\n3: call putchar(107);\n4: p = &b;\n5: p = p + 2;\n6: store p, 0;\n7: return 0;\n}\n";
+
+const USAGE: &str =
+    "usage: cssv verify FILE CERT, check FILE CERT, run FILE STEPS ARG.., core FILE, report FILE, gen N\n";
+
+fn words_of(alloc: Global, words: &[&str]) -> Result<Vec<Vec<u8>>, AllocError> {
+    let mut all = Vec::new(alloc);
+    for word in words {
+        all.push(Vec::from_slice(alloc, word.as_bytes())?)?;
+    }
+    Ok(all)
+}
+
+fn store_of(alloc: Global, text: &str) -> Result<SteadyStore, AllocError> {
+    let mut files = Vec::new(alloc);
+    files.push((
+        Vec::from_slice(alloc, b"a.core")?,
+        Vec::from_slice(alloc, text.as_bytes())?,
+    ))?;
+    Ok(SteadyStore::new(alloc, files))
+}
+
+/// What the words answer where the file a.core holds this text.
+fn answer(alloc: Global, text: &str, words: &[&str], input: &[u8]) -> Result<Served, AllocError> {
+    let words = words_of(alloc, words)?;
+    let mut store = store_of(alloc, text)?;
+    serve_words(alloc, &words, &mut store, input)
+}
+
+fn says(rt: &impl Abort, served: &Served, status: u8, out: &str, errs: &str) {
+    assert_eq!(rt; served.status, status);
+    assert_eq!(rt; served.out.as_slice(), out.as_bytes());
+    assert_eq!(rt; served.errs.as_slice(), errs.as_bytes());
+}
+
+#[test]
+fn runs_end_as_defined(rt: HostRuntime) -> Result<(), Fail> {
+    let table = [
+        (STRAIGHT, ["4", ""], 0, "returned 0\n"),
+        (STRAIGHT, ["3", ""], 8, "stopped after 3 steps\n"),
+        (DOWN, ["100", ""], 0, "returned 0\n"),
+        (INC, ["100", "9"], 0, "returned 10\n"),
+        (INC, ["0", "10"], 1, "error Requires in main at line 1\n"),
+        (TEXT, ["100", "abc"], 0, "returned 3\n"),
+    ];
+    for (text, words, status, line) in &table {
+        let bare = ["run", "a.core", words[0]];
+        let more = ["run", "a.core", words[0], words[1]];
+        let words = if words[1].is_empty() { bare.as_slice() } else { more.as_slice() };
+        says(&rt, &answer(rt.alloc(), text, words, b"")?, *status, "", line);
+    }
+    Ok(())
+}
+
+#[test]
+fn input_is_read_and_output_printed(rt: HostRuntime) -> Result<(), Fail> {
+    let alloc = rt.alloc();
+    let words = ["run", "a.core", "1000000000"];
+    says(&rt, &answer(alloc, ECHO, &words, b"hey")?, 0, "hey", "returned -1\n");
+    says(&rt, &answer(alloc, ECHO, &words, b"")?, 0, "", "returned -1\n");
+    says(&rt, &answer(alloc, PAST, &words, b"")?, 1, "ok", "error Bounds in main at line 6\n");
+    Ok(())
+}
+
+#[test]
+fn other_words_are_refused(rt: HostRuntime) -> Result<(), Fail> {
+    let table = [
+        ["", ""],
+        ["x", ""],
+        ["-1", ""],
+        ["1000000001", ""],
+        ["9", ""],
+        ["9", "2147483648"],
+        ["9", "+1"],
+    ];
+    for [steps, arg] in &table {
+        let bare = ["run", "a.core", steps];
+        let more = ["run", "a.core", steps, arg];
+        let words = if arg.is_empty() { bare.as_slice() } else { more.as_slice() };
+        says(&rt, &answer(rt.alloc(), INC, words, b"")?, 2, "", USAGE);
+    }
+    Ok(())
+}
+
+#[test]
+fn faults_come_first(rt: HostRuntime) -> Result<(), Fail> {
+    let alloc = rt.alloc();
+    let table = [
+        ("a.core", "1: proc int main( {", 3, "a.core:1: fault text\n"),
+        ("a.core", "1: proc int f() { 2: return 0; }", 3, "a.core:1: fault NoMain\n"),
+        ("b.core", STRAIGHT, 5, "read fault\n"),
+    ];
+    for (name, text, status, line) in &table {
+        says(&rt, &answer(alloc, text, &["run", name, "1", "x"], b"")?, *status, "", line);
+    }
+    Ok(())
+}
+
+/// What `run a.core 9` answers over sinks of which some call fails.
+fn failing(alloc: Global, outs: &[u64], errors: &[u64], reads: &[u64]) -> Result<(u8, MemSink, MemSink), AllocError> {
+    let words = words_of(alloc, &["run", "a.core", "9"])?;
+    let mut store = store_of(alloc, ECHO)?;
+    let mut input = MemSource::new(Vec::from_slice(alloc, b"x")?, Vec::from_slice(alloc, reads)?);
+    let mut out = MemSink::new(alloc, Vec::from_slice(alloc, outs)?);
+    let mut errs = MemSink::new(alloc, Vec::from_slice(alloc, errors)?);
+    let status = cssv(alloc, &words, &mut store, &mut input, &mut out, &mut errs);
+    Ok((status, out, errs))
+}
+
+#[test]
+fn failing_devices_are_told(rt: HostRuntime) -> Result<(), Fail> {
+    let alloc = rt.alloc();
+    let (status, out, errs) = failing(alloc, &[0], &[], &[])?;
+    assert_eq!(&rt; status, 6);
+    assert!(&rt; out.bytes().is_empty());
+    assert_eq!(&rt; errs.bytes(), b"write fault\n".as_slice());
+    let (status, out, errs) = failing(alloc, &[], &[0], &[])?;
+    assert_eq!(&rt; status, 6);
+    assert_eq!(&rt; out.bytes(), b"x".as_slice());
+    assert!(&rt; errs.bytes().is_empty());
+    let (status, out, errs) = failing(alloc, &[], &[], &[1])?;
+    assert_eq!(&rt; status, 5);
+    assert!(&rt; out.bytes().is_empty());
+    assert_eq!(&rt; errs.bytes(), b"read fault\n".as_slice());
+    Ok(())
+}
