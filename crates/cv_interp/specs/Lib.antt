@@ -1,0 +1,13 @@
+pub mod Slots
+pub mod Level
+pub mod Machine
+pub mod Start
+pub mod Seen
+pub mod Stack
+pub mod Cells
+pub mod Takes
+pub mod Sound
+pub mod Entered
+pub mod Good
+pub mod Called
+pub mod Made

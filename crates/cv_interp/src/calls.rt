@@ -1,0 +1,428 @@
+//! One step of a call.
+ghost use Rattle.std.specs.Prelude.{IfSome, IsSome, false, ◌≡◌, ◌+◌, ◌<◌, ◌≤◌, ◌^◌, ℕ, Err, IfOk, List, None, OnErr, Ok, Some, length, map, slice_get};
+ghost use Rattle.std.specs.List.{list_all};
+ghost use Rattle.cv_core.specs.Limits.{first_limit};
+ghost use Rattle.cv_core.specs.Names.{locals_of as locals_in, local_site as local_site_of, malloc_site as malloc_site_of, place_of, stmts_of as stmts_in};
+ghost use Rattle.cv_core.specs.Headings.{breaks_extern};
+ghost use Rattle.cv_core.specs.WellFormed.{IsSoundProgram};
+ghost use Rattle.cv_meaning.specs.Call.{answer_in as answer_within, first_alternative as first_alternative_in, call as call_in, call_named as call_named_in, call_proc as call_proc_in, entered, entry_turn, extern_answer as extern_answer_in, first_number as first_number_in, getchar as getchar_in, give as give_in, malloc as malloc_in, permitted as permitted_in, putchar as putchar_in, scene_of};
+ghost use Rattle.cv_meaning.specs.Memory.{is_no_literal as is_no_literal_in, may_change as may_change_in};
+ghost use Rattle.cv_meaning.specs.State.{Frame, any_value as any_value_in};
+ghost use Rattle.cv_meaning.specs.declared.memory.World.{World as WorldValue};
+ghost use Rattle.cv_interp.specs.Called.{IsCalled, IsInto, IsSame, bound_by, lone_or_zero};
+ghost use Rattle.cv_interp.specs.Entered.{IsRoom, arrived};
+ghost use Rattle.cv_interp.specs.Good.{IsActive};
+ghost use Rattle.cv_interp.specs.Seen.{frame, left, state, state_in};
+ghost use Rattle.cv_interp.specs.Slots.{env_of};
+
+use crate::cells::may_change;
+use crate::entering::{Guest, furnished, guest_of, make_buffer, may_enter};
+use crate::sites::{local_site, malloc_site};
+use crate::slots::{any_value, assign_value, low_byte, number};
+use crate::store::{Activation, Room, Store};
+use crate::world::{after_allocation, after_answer, after_byte, allocation, answer_in, byte_read};
+use cv_core::{AnyOperand, Atom, Bytes, ErrKind, LinPart, List, Proc, Program};
+use cv_meaning::{Permit, Ptr, Value};
+use std::alloc::{AllocError, Global};
+use std::mem;
+
+/// Gives an answer to the destination of a call.
+pub(crate) fn give(
+    p: &Program,
+    f: &Proc,
+    into: &Option<Bytes>,
+    answer: Option<Value>,
+    room: &mut Room,
+)
+    requires slot { IsInto f.now into.now }
+    requires room { IsRoom f.now room.old }
+    ensures state { (g : Frame) (w : WorldValue) (out : List ℕ) → g.proc ≡ f.now → state_in f.now w out room.new ≡ give_in p.now g into.now answer (state_in f.now w out room.old) }
+    ensures room { IsRoom f.now room.new }
+{
+    match into {
+        None => {}
+        Some(x) => match answer {
+            None => {}
+            Some(v) => assign_value(p, f, &mut room.vars, x.as_slice(), v),
+        },
+    }
+}
+
+/// A procedure that was entered, and the variables of its caller.
+#[derive(Drop)]
+pub(crate) struct Entered<'a> {
+    pub(crate) callee: Activation<'a>,
+    pub(crate) vars: Vec<Value>,
+}
+
+/// What a call leads to.
+#[derive(Drop)]
+pub(crate) enum Called<'a> {
+    Errs(ErrKind),
+    Goes,
+    Enters(Entered<'a>),
+}
+
+/// Where a call stands, and what it is given.
+#[derive(Clone, Copy, Drop)]
+pub(crate) struct Site<'b> {
+    pub(crate) k: usize,
+    pub(crate) into: &'b Option<Bytes>,
+    pub(crate) args: &'b [Value],
+}
+
+fn first_number(args: &[Value]) -> i32
+    ensures { result ≡ first_number_in args.now }
+{
+    match args {
+        [] => 0,
+        [first, ..] => number(*first),
+    }
+}
+
+/// Gives an answer to the destination of the call that runs.
+fn given(p: &Program, a: &Activation, site: &Site, v: Value, s: &mut Store)
+    requires slot { IsInto a.now.proc.now site.now.into.now }
+    requires room { IsRoom a.now.proc.now s.old.room }
+    ensures state { state a.now.proc.now s.new ≡ give_in p.now (frame a.now) site.now.into.now (Some v) (state a.now.proc.now s.old) }
+    ensures room { IsRoom a.now.proc.now s.new.room }
+{
+    give(p, a.proc, site.into, Some(v), &mut s.room);
+}
+
+fn malloc<'a>(
+    alloc: Global,
+    p: &Program,
+    a: &Activation,
+    site: &Site,
+    s: &mut Store,
+) -> Result<Called<'a>, AllocError>
+    requires slot { IsInto a.now.proc.now site.now.into.now }
+    requires room { IsRoom a.now.proc.now s.old.room }
+    requires active { IsActive p.now a.now }
+    requires place { site.now.k ≤ length (stmts_in a.now.proc.now.body) }
+    ensures ok { IfOk result (λ c. IsCalled a.now site.now.k (malloc_in p.now (first_number_in site.now.args.now) (malloc_site_of p.now a.now.number site.now.k) (frame a.now) site.now.k site.now.into.now (state a.now.proc.now s.old)) s.old c s.new) }
+    ensures err { OnErr result (IsSame s.old s.new) }
+{
+    let size = first_number(site.args);
+    if size < 0 {
+        return Ok(Called::Errs(ErrKind::Requires));
+    }
+    let taken = after_allocation(&s.world, s.room.taken);
+    if !allocation(&s.world, s.room.taken) {
+        s.room.taken = taken;
+        given(p, a, site, Value::Ptr(Ptr::Null), s);
+        return Ok(Called::Goes);
+    }
+    let Some(number) = malloc_site(p, a.number as usize, a.proc, site.k) else {
+        return Err(AllocError);
+    };
+    let object = make_buffer(alloc, a.proc, &s.world, number, size as usize, &mut s.room)?;
+    s.room.taken = after_allocation(&s.world, s.room.taken);
+    given(p, a, site, Value::Ptr(Ptr::At { object, offset: 0 }), s);
+    Ok(Called::Goes)
+}
+
+fn getchar<'a>(p: &Program, a: &Activation, site: &Site, s: &mut Store) -> Called<'a>
+    requires slot { IsInto a.now.proc.now site.now.into.now }
+    requires room { IsRoom a.now.proc.now s.old.room }
+    ensures { IsCalled a.now site.now.k (getchar_in p.now (frame a.now) site.now.k site.now.into.now (state a.now.proc.now s.old)) s.old result s.new }
+{
+    let byte = byte_read(&s.world, s.room.taken);
+    s.room.taken = after_byte(&s.world, s.room.taken);
+    given(p, a, site, Value::Int(byte), s);
+    Called::Goes
+}
+
+fn putchar<'a>(
+    p: &Program,
+    a: &Activation,
+    site: &Site,
+    s: &mut Store,
+) -> Result<Called<'a>, AllocError>
+    requires slot { IsInto a.now.proc.now site.now.into.now }
+    requires room { IsRoom a.now.proc.now s.old.room }
+    ensures ok { IfOk result (λ c. IsCalled a.now site.now.k (putchar_in p.now (first_number_in site.now.args.now) (frame a.now) site.now.k site.now.into.now (state a.now.proc.now s.old)) s.old c s.new) }
+    ensures err { OnErr result (IsSame s.old s.new) }
+{
+    let byte = low_byte(first_number(site.args));
+    s.output.push(byte)?;
+    given(p, a, site, Value::Int(i32::from(byte)), s);
+    Ok(Called::Goes)
+}
+
+fn is_no_literal(permit: &Permit, object: u64) -> bool
+    ensures { result ≡ is_no_literal_in permit.now object }
+{
+    object < permit.literals.0 || permit.literals.1 <= object
+}
+
+fn none_literal(caller: &Permit, objects: &[u64]) -> bool
+    ensures { result ≡ list_all (is_no_literal_in caller.now) objects.now }
+{
+    match objects {
+        [] => true,
+        [first, rest @ ..] => {
+            let here = is_no_literal(caller, *first);
+            let later = none_literal(caller, rest);
+            here && later
+        }
+    }
+}
+
+fn all_may_change(caller: &Permit, objects: &[u64]) -> bool
+    ensures { result ≡ list_all (may_change_in caller.now) objects.now }
+{
+    match objects {
+        [] => true,
+        [first, rest @ ..] => {
+            let here = may_change(caller, *first);
+            let later = all_may_change(caller, rest);
+            here && later
+        }
+    }
+}
+
+/// Whether the objects may be changed by a callee: Literal, Modifies.
+fn permitted(caller: &Permit, objects: &[u64]) -> Result<(), ErrKind>
+    ensures { result ≡ permitted_in caller.now objects.now (Ok tt) }
+{
+    if !none_literal(caller, objects) {
+        return Err(ErrKind::Literal);
+    }
+    if !all_may_change(caller, objects) {
+        return Err(ErrKind::Modifies);
+    }
+    Ok(())
+}
+
+/// The number that a sum of one number is.
+fn lone_number(parts: &[LinPart]) -> i64
+    ensures { result ≡ lone_or_zero parts.now }
+{
+    match parts {
+        [] => 0,
+        [part] => match part.number {
+            None => 0,
+            Some(k) => {
+                if part.negative {
+                    -i64::from(k)
+                } else {
+                    i64::from(k)
+                }
+            }
+        },
+        _ => 0,
+    }
+}
+
+/// The number on the right of an atom; 0 where there is no such atom.
+fn bound(atoms: &[Atom], i: usize) -> i64
+    ensures { result ≡ bound_by (slice_get atoms.now i) }
+{
+    match atoms.get(i) {
+        None => 0,
+        Some(Atom::Compare { right, .. }) => lone_number(right.as_slice()),
+        Some(_) => 0,
+    }
+}
+
+/// The atoms of the first alternative.
+fn first_alternative(alternatives: &[List<Atom>]) -> &[Atom]
+    ensures { result.now ≡ first_alternative_in alternatives.now }
+{
+    match alternatives {
+        [] => &[],
+        [first, ..] => first.as_slice(),
+    }
+}
+
+/// The answer of an extern procedure.
+fn extern_answer(g: &Proc, s: &Store) -> i64
+    ensures { result ≡ answer_within (bound_by (slice_get (first_alternative_in g.now.contract.gives) 0)) (bound_by (slice_get (first_alternative_in g.now.contract.gives) 1)) (left s.now.world s.now.room.taken).answers }
+{
+    let atoms = first_alternative(g.contract.gives.as_slice());
+    answer_in(bound(atoms, 0), bound(atoms, 1), &s.world, s.room.taken)
+}
+
+fn asked<'a>(
+    p: &Program,
+    a: &Activation,
+    site: &Site,
+    g: &Proc,
+    guest: &Guest,
+    s: &mut Store,
+) -> Result<Called<'a>, AllocError>
+    requires slot { IsInto a.now.proc.now site.now.into.now }
+    requires room { IsRoom a.now.proc.now s.old.room }
+    requires outside { breaks_extern g.now ≡ false }
+    requires none { g.now.body ≡ None }
+    ensures ok { IfOk result (λ c. (i : ℕ) → IsCalled a.now site.now.k (entry_turn p.now (frame a.now) (arrived i g.now guest.now s.old.room.memory) site.now.k site.now.into.now g.now.body (state a.now.proc.now s.old)) s.old c s.new) }
+    ensures err { OnErr result (IsSame s.old s.new) }
+{
+    let Ok(answer) = i32::try_from(extern_answer(g, s)) else {
+        return Err(AllocError);
+    };
+    s.room.taken = after_answer(&s.world, s.room.taken);
+    given(p, a, site, Value::Int(answer), s);
+    Ok(Called::Goes)
+}
+
+/// Enters a procedure with a body.
+fn make_entered<'a>(
+    alloc: Global,
+    p: &Program,
+    number: u32,
+    g: &'a Proc,
+    guest: Guest,
+    a: &Activation,
+    place: &Site,
+    s: &mut Store,
+) -> Result<Called<'a>, AllocError>
+    requires room { IsRoom a.now.proc.now s.old.room }
+    requires names { map (λ n. n.name) guest.formals ≡ map (λ f. f.name) g.now.formals }
+    requires body { IsSome g.now.body }
+    ensures ok { IfOk result (λ c. IsCalled a.now place.now.k (entry_turn p.now (frame a.now) (arrived number g.now guest s.old.room.memory) place.now.k place.now.into.now g.now.body (state a.now.proc.now s.old)) s.old c s.new) }
+    ensures err { OnErr result (IsSame s.old s.new) }
+{
+    let Some(site) = local_site(p, number as usize) else {
+        return Err(AllocError);
+    };
+    let inner = furnished(
+        alloc,
+        p,
+        g,
+        site,
+        &guest.formals,
+        &s.room.memory,
+        s.room.made,
+        &s.world,
+        s.room.taken,
+    )?;
+    let Room { vars, memory, .. } = mem::replace(&mut s.room, inner);
+    let Guest { formals, permit } = guest;
+    let callee = Activation {
+        number,
+        proc: g,
+        formals,
+        entry: memory,
+        permit,
+    };
+    Ok(Called::Enters(Entered { callee, vars }))
+}
+
+/// A call of a procedure of the program.
+fn call_proc<'a>(
+    alloc: Global,
+    p: &Program,
+    a: &Activation,
+    site: &Site,
+    number: u32,
+    g: &'a Proc,
+    s: &mut Store,
+) -> Result<Called<'a>, AllocError>
+    requires slot { IsInto a.now.proc.now site.now.into.now }
+    requires room { IsRoom a.now.proc.now s.old.room }
+    requires there { slice_get p.now.procs number ≡ Some g.now }
+    requires sound { IsSoundProgram p.now }
+    requires limits { first_limit p.now ≡ None }
+    ensures ok { IfOk result (λ c. IsCalled a.now site.now.k (call_proc_in p.now (frame a.now) site.now.k site.now.into.now number site.now.args.now (state a.now.proc.now s.old) (Some g.now)) s.old c s.new) }
+    ensures err { OnErr result (IsSame s.old s.new) }
+{
+    let guest = guest_of(alloc, p, g, site.args, &s.room.memory, s.room.made)?;
+    if !may_enter(p, g, &guest, &s.room.memory) {
+        return Ok(Called::Errs(ErrKind::Requires));
+    }
+    match permitted(&a.permit, guest.permit.allowed.as_slice()) {
+        Err(kind) => Ok(Called::Errs(kind)),
+        Ok(()) => match g.body {
+            None => asked(p, a, site, g, &guest, s),
+            Some(_) => make_entered(alloc, p, number, g, guest, a, site, s),
+        },
+    }
+}
+
+pub(crate) fn proc_place(procs: &[Proc], x: &[u8]) -> Option<usize>
+    ensures place { result ≡ place_of (λ g. g.name) x.now procs.now }
+    ensures within { IfSome result (λ i. i < length procs.now) }
+{
+    procs.iter().position(|g| g.name.as_slice() == x)
+}
+
+fn call_named<'a>(
+    alloc: Global,
+    p: &'a Program,
+    a: &Activation,
+    site: &Site,
+    x: &[u8],
+    s: &mut Store,
+) -> Result<Called<'a>, AllocError>
+    requires slot { IsInto a.now.proc.now site.now.into.now }
+    requires room { IsRoom a.now.proc.now s.old.room }
+    requires sound { IsSoundProgram p.now }
+    requires limits { first_limit p.now ≡ None }
+    ensures ok { IfOk result (λ c. IsCalled a.now site.now.k (call_named_in p.now (frame a.now) site.now.k site.now.into.now (place_of (λ h. h.name) x.now p.now.procs) site.now.args.now (state a.now.proc.now s.old)) s.old c s.new) }
+    ensures err { OnErr result (IsSame s.old s.new) }
+{
+    let Some(i) = proc_place(p.procs.as_slice(), x) else {
+        return Ok(Called::Goes);
+    };
+    let Some(g) = p.procs.get(i) else {
+        return Ok(Called::Goes);
+    };
+    let Ok(number) = u32::try_from(i) else {
+        return Err(AllocError);
+    };
+    call_proc(alloc, p, a, site, number, g, s)
+}
+
+fn values_of(
+    alloc: Global,
+    a: &Activation,
+    s: &Store,
+    args: &[AnyOperand],
+) -> Result<Vec<Value>, AllocError>
+    ensures { IfOk result (λ vs. vs.items ≡ map (any_value_in (env_of a.now.proc.now s.now.room.vars.items)) args.now) }
+{
+    args.iter()
+        .map(|e| any_value(a.proc, s.room.vars.as_slice(), e))
+        .collect(alloc)
+}
+
+/// One step of a call; after want of memory nothing has changed.
+#[tactic(auto, unfolding(cv_meaning::specs::Call::call))]
+pub(crate) fn call<'a>(
+    alloc: Global,
+    p: &'a Program,
+    a: &Activation,
+    k: usize,
+    into: &Option<Bytes>,
+    x: &[u8],
+    args: &List<AnyOperand>,
+    s: &mut Store,
+) -> Result<Called<'a>, AllocError>
+    requires slot { IsInto a.now.proc.now into.now }
+    requires room { IsRoom a.now.proc.now s.old.room }
+    requires active { IsActive p.now a.now }
+    requires place { k ≤ length (stmts_in a.now.proc.now.body) }
+    requires sound { IsSoundProgram p.now }
+    requires limits { first_limit p.now ≡ None }
+    ensures ok { IfOk result (λ c. IsCalled a.now k (call_in p.now (frame a.now) k into.now x.now (map (any_value_in (env_of a.now.proc.now s.old.room.vars.items)) args.now) (state a.now.proc.now s.old)) s.old c s.new) }
+    ensures err { OnErr result (IsSame s.old s.new) }
+{
+    let values = values_of(alloc, a, s, args.as_slice())?;
+    let site = Site {
+        k,
+        into,
+        args: values.as_slice(),
+    };
+    if x == b"malloc".as_slice() {
+        malloc(alloc, p, a, &site, s)
+    } else if x == b"getchar".as_slice() {
+        Ok(getchar(p, a, &site, s))
+    } else if x == b"putchar".as_slice() {
+        putchar(p, a, &site, s)
+    } else {
+        call_named(alloc, p, a, &site, x, s)
+    }
+}

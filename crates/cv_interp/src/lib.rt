@@ -1,0 +1,24 @@
+//! Runs a program step by step: a machine with an explicit stack, which ends where the run of the meaning ends.
+#![tactic(auto)]
+
+mod begin;
+mod calls;
+mod cells;
+mod entering;
+mod items;
+mod leaving;
+mod machine;
+mod objects;
+mod probe;
+mod sites;
+mod slots;
+mod steps;
+mod store;
+mod world;
+
+pub use begin::StartError;
+pub use cv_meaning::{Arg, RunEnd};
+pub use machine::{Machine, Turn};
+
+#[cfg(test)]
+mod tests;

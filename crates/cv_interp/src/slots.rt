@@ -1,0 +1,247 @@
+//! Variables by slot.
+ghost use Rattle.std.specs.Prelude.{◌≡◌, ◌<◌, map, length, pos, IfSome, IsSome};
+ghost use Rattle.cv_core.specs.Chars.{low_byte as low_byte_of, char_of as char_in};
+ghost use Rattle.cv_core.specs.Names.{kind_among as kind_in, kind_in_locals as kind_among_locals, kind_of as kind_of_name, kind_of_local as kind_of_body, locals_of as locals_in};
+ghost use Rattle.cv_meaning.specs.State.{any_value as any_value_in, as_kind as as_kind_of, number as number_in, operand_value as operand_value_in, pointer as pointer_in, set};
+ghost use Rattle.cv_interp.specs.Slots.{env_of, held_as, is_variable as is_variable_in, slot_in, slot_names, slot_of as slot_of_name, variables_of};
+
+use cv_core::{AnyOperand, Formal, Local, LocalBody, Operand, Proc, Program, VarKind};
+use cv_meaning::{Ptr, Value};
+
+/// The locals of a procedure; none without a body.
+pub(crate) fn locals_of(f: &Proc) -> &[Local]
+    ensures { result.now ≡ locals_in f.now.body }
+{
+    match &f.body {
+        None => &[],
+        Some(body) => body.locals.as_slice(),
+    }
+}
+
+fn slot_among_formals(formals: &[Formal], x: &[u8]) -> Option<usize>
+    ensures value { result ≡ slot_in (map (λ f. f.name) formals.now) x.now }
+    ensures within { IfSome result (λ i. i < length formals.now) }
+{
+    match formals {
+        [] => None,
+        [first, rest @ ..] => {
+            if first.name.as_slice() == x {
+                Some(0)
+            } else {
+                Some(slot_among_formals(rest, x)? + 1)
+            }
+        }
+    }
+}
+
+fn is_variable(body: LocalBody) -> bool
+    ensures { result ≡ is_variable_in body }
+{
+    matches!(body, LocalBody::Var(_))
+}
+
+fn slot_among_locals(locals: &[Local], x: &[u8]) -> Option<usize>
+    ensures value { result ≡ slot_in (variables_of locals.now) x.now }
+    ensures within { IfSome result (λ i. i < length locals.now) }
+{
+    match locals {
+        [] => None,
+        [first, rest @ ..] => {
+            if !is_variable(first.body) {
+                slot_among_locals(rest, x)
+            } else if first.name.as_slice() == x {
+                Some(0)
+            } else {
+                Some(slot_among_locals(rest, x)? + 1)
+            }
+        }
+    }
+}
+
+/// The slot of a variable of the procedure; the first of the name counts.
+#[tactic(auto, using(crate::proofs::Env::slot_first, crate::proofs::Env::slot_second, crate::proofs::Env::slot_neither, crate::proofs::Env::slot_within))]
+fn slot_of(f: &Proc, x: &[u8]) -> Option<usize>
+    ensures value { result ≡ slot_of_name f.now x.now }
+    ensures within { IfSome result (λ i. i < length (slot_names f.now)) }
+{
+    let formals = f.formals.as_slice();
+    match slot_among_formals(formals, x) {
+        Some(i) => Some(i),
+        None => match slot_among_locals(locals_of(f), x) {
+            None => None,
+            Some(i) => Some(formals.len() + i),
+        },
+    }
+}
+
+/// What a variable holds; wild for a name that has no slot.
+#[tactic(auto, using(crate::proofs::Env::env_some, crate::proofs::Env::env_gone, crate::proofs::Env::env_none))]
+pub(crate) fn value_of(f: &Proc, vars: &[Value], x: &[u8]) -> Value
+    ensures { result ≡ env_of f.now vars.now x.now }
+{
+    match slot_of(f, x) {
+        None => Value::Ptr(Ptr::Wild),
+        Some(i) => match vars.get(i) {
+            None => Value::Ptr(Ptr::Wild),
+            Some(v) => *v,
+        },
+    }
+}
+
+/// Puts a value into a variable.
+#[tactic(auto, using(crate::proofs::Env::env_set))]
+pub(crate) fn set_var(f: &Proc, vars: &mut Vec<Value>, x: &[u8], v: Value)
+    requires known { IsSome (slot_of_name f.now x.now) }
+    requires whole { length vars.old.items ≡ length (slot_names f.now) }
+    ensures set { env_of f.now vars.new.items ≡ set (env_of f.now vars.old.items) x.now v }
+    ensures whole { length vars.new.items ≡ length vars.old.items }
+{
+    match slot_of(f, x) {
+        None => {}
+        Some(i) => vars[i] = v,
+    }
+}
+
+pub(crate) fn number(v: Value) -> i32
+    ensures { result ≡ number_in v }
+{
+    match v {
+        Value::Int(z) => z,
+        Value::Ptr(_) => 0,
+    }
+}
+
+pub(crate) fn pointer(v: Value) -> Ptr
+    ensures { result ≡ pointer_in v }
+{
+    match v {
+        Value::Ptr(p) => p,
+        Value::Int(_) => Ptr::Wild,
+    }
+}
+
+pub(crate) fn operand_value(f: &Proc, vars: &[Value], e: &Operand) -> Value
+    ensures { result ≡ operand_value_in (env_of f.now vars.now) e.now }
+{
+    match e {
+        Operand::Var(x) => value_of(f, vars, x.as_slice()),
+        Operand::Number(z) => Value::Int(*z),
+    }
+}
+
+pub(crate) fn any_value(f: &Proc, vars: &[Value], e: &AnyOperand) -> Value
+    ensures { result ≡ any_value_in (env_of f.now vars.now) e.now }
+{
+    match e {
+        AnyOperand::Operand(e) => operand_value(f, vars, e),
+        AnyOperand::Null => Value::Ptr(Ptr::Null),
+    }
+}
+
+/// The number that an operand has.
+pub(crate) fn number_of(f: &Proc, vars: &[Value], e: &Operand) -> i32
+    ensures { result ≡ number_in (operand_value_in (env_of f.now vars.now) e.now) }
+{
+    number(operand_value(f, vars, e))
+}
+
+/// The pointer that a variable holds.
+pub(crate) fn pointer_of(f: &Proc, vars: &[Value], x: &[u8]) -> Ptr
+    ensures { result ≡ pointer_in (env_of f.now vars.now x.now) }
+{
+    pointer(value_of(f, vars, x))
+}
+
+/// A number modulo 256.
+pub(crate) fn low_byte(z: i32) -> u8
+    ensures { result ≡ low_byte_of z }
+{
+    z.rem_euclid(256) as u8
+}
+
+/// The char to which a number is wrapped.
+fn char_of(_p: &Program, z: i32) -> i32
+    ensures { result ≡ char_in _p.now z }
+{
+    i32::from(low_byte(z))
+}
+
+fn kind_of_local(body: LocalBody) -> VarKind
+    ensures { result ≡ kind_of_body body }
+{
+    match body {
+        LocalBody::Var(kind) => kind,
+        _ => VarKind::Int,
+    }
+}
+
+fn kind_in_locals(locals: &[Local], x: &[u8]) -> VarKind
+    ensures { result ≡ kind_among_locals x.now locals.now }
+{
+    match locals {
+        [] => VarKind::Int,
+        [first, rest @ ..] => {
+            if first.name.as_slice() == x {
+                kind_of_local(first.body)
+            } else {
+                kind_in_locals(rest, x)
+            }
+        }
+    }
+}
+
+fn kind_among(formals: &[Formal], locals: &[Local], x: &[u8]) -> VarKind
+    ensures { result ≡ kind_in x.now formals.now locals.now }
+{
+    match formals {
+        [] => kind_in_locals(locals, x),
+        [first, rest @ ..] => {
+            if first.name.as_slice() == x {
+                first.kind
+            } else {
+                kind_among(rest, locals, x)
+            }
+        }
+    }
+}
+
+/// The kind of a variable of the procedure.
+fn kind_of(f: &Proc, x: &[u8]) -> VarKind
+    ensures { result ≡ kind_of_name f.now x.now }
+{
+    kind_among(f.formals.as_slice(), locals_of(f), x)
+}
+
+/// A number as a variable of a kind holds it.
+pub(crate) fn as_kind(p: &Program, kind: VarKind, z: i32) -> Value
+    ensures { result ≡ as_kind_of p.now kind z }
+{
+    match kind {
+        VarKind::Char => Value::Int(char_of(p, z)),
+        _ => Value::Int(z),
+    }
+}
+
+/// Assigns a number to a variable.
+pub(crate) fn assign(p: &Program, f: &Proc, vars: &mut Vec<Value>, x: &[u8], z: i32)
+    requires known { IsSome (slot_of_name f.now x.now) }
+    requires whole { length vars.old.items ≡ length (slot_names f.now) }
+    ensures set { env_of f.now vars.new.items ≡ set (env_of f.now vars.old.items) x.now (as_kind_of p.now (kind_of_name f.now x.now) z) }
+    ensures whole { length vars.new.items ≡ length vars.old.items }
+{
+    let v = as_kind(p, kind_of(f, x), z);
+    set_var(f, vars, x, v);
+}
+
+/// Assigns a number or a pointer to a variable.
+pub(crate) fn assign_value(p: &Program, f: &Proc, vars: &mut Vec<Value>, x: &[u8], v: Value)
+    requires known { IsSome (slot_of_name f.now x.now) }
+    requires whole { length vars.old.items ≡ length (slot_names f.now) }
+    ensures set { env_of f.now vars.new.items ≡ set (env_of f.now vars.old.items) x.now (held_as p.now f.now x.now v) }
+    ensures whole { length vars.new.items ≡ length vars.old.items }
+{
+    match v {
+        Value::Int(z) => assign(p, f, vars, x, z),
+        Value::Ptr(_) => set_var(f, vars, x, v),
+    }
+}
