@@ -1,10 +1,16 @@
 -- Input that is read piece by piece, and words that are read one by one.
-use Rattle.std.proofs.Common.{◌≡◌, ℕ, ◌<◌, ◌≤◌, List, [], ◌∷◌, ◌++◌, length, Option, None, Some, IfSome, option_map, option_and_then, refl, sym, ap, ◌∙◌, arith, rules, append-nil}
+use Rattle.std.proofs.Common.{Bool, true, false, nat_le, if◌then◌else◌, ℤ, All, IsTrue, ◌≡◌, ℕ, ◌<◌, ◌≤◌, List, [], ◌∷◌, ◌++◌, length, Option, None, Some, IfSome, option_map, option_and_then, refl, sym, ap, ◌∙◌, arith, rules, subst, append-nil}
 use Rattle.std.proofs.lemmas.List.{append_assoc, length-append}
+use Rattle.std.proofs.lemmas.List.Elements.{All-cons, All-nil}
 use Rattle.cv_core.specs.declared.program.Formal.{Formal}
+use Rattle.cv_core.specs.declared.program.VarKind.{VarKind}
+use Rattle.cv_core.specs.declared.program.VarKind.TheVariants as kind
 use Rattle.cv_meaning.specs.declared.ends.Arg.{Arg}
+use Rattle.cv_meaning.specs.declared.ends.Arg.TheVariants as arg
+use Rattle.cv_interp.specs.Start.{fit, fits_kind, HasFewBytes}
 use Rattle.cv_io.specs.Streams.{preceded, Takes, IsAtEnd}
 use Rattle.cv_app.specs.Args.{arg_of, args_of}
+use Rattle.cv_app.specs.Numbers.{int_of}
 
 -- a piece more
 pub told_more : (all left left' : Option (List ℕ)) (bytes piece : List ℕ) → all ≡ preceded bytes left → Takes left piece left' → all ≡ preceded (bytes ++ piece) left'
@@ -50,3 +56,44 @@ pub other_arg : (args : List Arg) (f : Formal) (fs : List Formal) (w : List ℕ)
     with_front args (args_of (f ∷ fs) (w ∷ ws)) ≡ all → None ≡ all
 other_arg args f fs w ws all is h =
     ap (λ (o : Option Arg). with_front args (option_and_then (λ b. option_map (λ more. b ∷ more) (args_of fs ws)) o)) is ∙ h
+
+-- ---- arguments are of their formals' kinds, and short
+
+-- an argument is of this kind, and short
+abbrev Suits : VarKind → Arg → Type 0
+Suits k a = (fits_kind k a ≡ true) × HasFewBytes a
+
+int_suits : (o : Option ℤ) (a : Arg) → option_map (λ z. arg.Int z) o ≡ Some a → Suits kind.Int a
+int_suits None a e = absurd cc
+int_suits (Some z) a e = let same : arg.Int z ≡ a = cc in subst (Suits kind.Int) same (refl, tt)
+
+text_suits : (w : List ℕ) (a : Arg) (few : Bool) → nat_le (length w) 1048576 ≡ few → (if few then Some (arg.Text w) else None) ≡ Some a → Suits kind.Ptr a
+text_suits w a false le e = absurd cc
+text_suits w a true le e = let same : arg.Text w ≡ a = cc in let short : length w ≤ 1048576 = grind arith in subst (Suits kind.Ptr) same (refl, short)
+
+arg_suits : (k : VarKind) (w : List ℕ) (a : Arg) → arg_of k w ≡ Some a → Suits k a
+arg_suits kind.Int w a e = int_suits (int_of w) a e
+arg_suits kind.Char w a e = absurd cc
+arg_suits kind.Ptr w a e = text_suits w a (nat_le (length w) 1048576) refl e
+arg_suits kind.Pptr w a e = absurd cc
+arg_suits kind.Iptr w a e = absurd cc
+
+-- each argument is of its formal's kind, and short
+pub args_suit : (fs : List Formal) (ws : List (List ℕ)) (args : List Arg) → args_of fs ws ≡ Some args → IsTrue (fit fs args) × All HasFewBytes args
+args_suit [] [] [] e = (search rules, All-nil HasFewBytes)
+args_suit [] [] (a ∷ args) e = absurd cc
+args_suit [] (w ∷ ws) args e = absurd cc
+args_suit (f ∷ fs) [] args e = absurd cc
+args_suit (f ∷ fs) (w ∷ ws) args e = by_first args (arg_of f.kind w) (args_of fs ws) refl refl (args_suit fs ws) e
+  where
+    by_first : (all : List Arg) (first : Option Arg) (later : Option (List Arg)) → arg_of f.kind w ≡ first → args_of fs ws ≡ later →
+        ((rest : List Arg) → args_of fs ws ≡ Some rest → IsTrue (fit fs rest) × All HasFewBytes rest) →
+        option_and_then (λ a. option_map (λ more. a ∷ more) later) first ≡ Some all → IsTrue (fit (f ∷ fs) all) × All HasFewBytes all
+    by_first all None later h k suit e = absurd cc
+    by_first all (Some a) None h k suit e = absurd cc
+    by_first all (Some a) (Some more) h k suit e =
+        let same : a ∷ more ≡ all = cc in
+        let here = arg_suits f.kind w a h in
+        let there = suit more k in
+        let fits : IsTrue (fit (f ∷ fs) (a ∷ more)) = rw here.0 there.0 in
+        subst (λ (l : List Arg). IsTrue (fit (f ∷ fs) l) × All HasFewBytes l) same (fits, All-cons HasFewBytes a more here.1 there.1)

@@ -1,6 +1,7 @@
 -- The value of digits that are read one by one.
-use Rattle.std.proofs.Common.{◌≡◌, ℕ, ◌+◌, ◌-◌, ◌*◌, ◌<◌, ◌≤◌, List, [], ◌∷◌, length, drop, get_or, add-one, drop-cons, refl, sym, ap, ◌∙◌, arith}
-use Rattle.cv_text.specs.Tokens.{value_behind}
+use Rattle.std.proofs.Common.{◌≡◌, ℕ, ◌+◌, ◌-◌, ◌*◌, ◌<◌, ◌≤◌, List, [], ◌∷◌, length, drop, get_or, add-one, drop-cons, Option, None, Some, refl, sym, ap, ◌∙◌, arith}
+use Rattle.cv_text.specs.Tokens.{value_behind, value_of}
+use Rattle.cv_app.specs.Numbers.{number_up_to}
 
 -- a value never falls as digits follow
 grows : (n : ℕ) (ds : List ℕ) → n ≤ value_behind n ds
@@ -19,3 +20,7 @@ passes n v i m ds lt h more =
     let all = next_digit n v i ds lt h in
     let low = grows (10 * n + (get_or ds i 0 - 48)) (drop (i + 1) ds) in
     omega (arith, more, low, all)
+
+-- a number past the bound is none
+pub too_great : (most : ℕ) (word : List ℕ) → most < value_of word → None ≡ number_up_to most word
+too_great most word more = grind arith

@@ -28,7 +28,7 @@ use Rattle.cv_app.specs.Runs.{args_for, world_of, ends, run_served, IsInput, Pro
 use Rattle.cv_app.specs.Served.{refused}
 use Rattle.cv_app.specs.Sinks.{IsEnding, IsSettled, Answered, RunAnswered, PrintedEnd, Reported, Becomes}
 use Rattle.cv_app.specs.Sinks as sinks
-use Rattle.cv_app.specs.Texts.{usage_text, input_limit_text, not_built_text, no_memory_text}
+use Rattle.cv_app.specs.Texts.{usage_text, input_limit_text, not_built_text, write_fault_text, no_memory_text}
 use Rattle.cv_app.proofs.FileLemmas.{one_found}
 use Rattle.cv_app.proofs.Outcomes.{no_end, answered_end, answered_reported, becomes_reported, becomes_hindered, becomes_end, run_answered_end}
 
@@ -57,19 +57,25 @@ one_run_of P steps words told answer other (Ended args input e is i) (OtherWords
 one_run_of P steps words told answer other (Ended args input e is i) (InputTooLong args' f asked more j) = absurd (long_input (reads_input P) told input asked more is)
 one_run_of P steps words told answer other (Ended args input e is i) (Ended args' input' f is' j) =
     let same_args : args' ≡ args = cc in
-    j ∙ ap (λ (as : List Arg). run_served P steps (ends P steps as input')) same_args
+    j ∙ ap (λ (given : List Arg). run_served P steps (ends P steps given input')) same_args
     ∙ ap (λ (bytes : List ℕ). run_served P steps (ends P steps args bytes)) (same_input (reads_input P) told input input' is is') ∙ sym i
 
 same_found : (files : Files) (name : List ℕ) (found other : Found) → FileGives files name found → FileGives files name other → other ≡ found
 same_found files name found other h k = (one_found files name found h).only other k
 
-same_refusal : (a b : Served) → Err {A = Program} b ≡ Err a → b ≡ a
+abbrev refusal_found : Served → Found
+refusal_found a = Err a
+
+abbrev program_found : Program → Found
+program_found p = Ok p
+
+same_refusal : (a b : Served) → refusal_found b ≡ refusal_found a → b ≡ a
 same_refusal a b e = cc
 
-same_program : (p q : Program) → Ok {E = Served} q ≡ Ok p → q ≡ p
+same_program : (p q : Program) → program_found q ≡ program_found p → q ≡ p
 same_program p q e = cc
 
-no_both : (p : Program) (a : Served) → Ok {E = Served} p ≡ Err a → ⊥
+no_both : (p : Program) (a : Served) → program_found p ≡ refusal_found a → ⊥
 no_both p a e = cc
 
 one_run_told : (files : Files) (file : List ℕ) (steps : ℕ) (words : List (List ℕ)) (told : List ℕ) (answer other : Served) →
@@ -157,6 +163,9 @@ pub record RunRefusal (file : List ℕ) (steps : ℕ) (words : List (List ℕ)) 
   pub line : Refuses (Run file steps words input) (halted file halt).status (halted file halt).errs
   pub two : (halted file halt).status ≡ 2 → halt ≡ OfFault Usage
   pub five : (halted file halt).status ≡ 5 → halt ≡ OfFault Read
+
+pub run_write_fault : (file : List ℕ) → RunRefuses file 6 write_fault_text
+run_write_fault file = inr (inr (inr (inr (inl (refl, refl)))))
 
 pub run_memory : (file : List ℕ) → RunRefuses file 7 no_memory_text
 run_memory file = inr (inr (inr (inr (inr (refl, refl)))))
@@ -351,6 +360,9 @@ is_ending steps served r = by_how (ends r.program steps r.args r.input).how refl
     by_how (end.Error kind proc number) e = inl (omega (arith, status_is ∙ ap end_status e))
     by_how end.Stopped e = inr (status_is ∙ ap end_status e)
 
+abbrev served_of : ℕ → List ℕ → List ℕ → Served
+served_of status out errs = record { status = status; out = out; errs = errs }
+
 -- what was served is the end of the run
 pub run_is : (P : Program) (steps : ℕ) (args : List Arg) (input : List ℕ) (m m' : Stack) (e : RunEnd) (status : ℕ) (out errs : List ℕ) →
     ((n : ℕ) → machine_end m n ≡ seen (run_main n P (start_values P args) (start_memory P args) (world_of input))) →
@@ -364,6 +376,3 @@ run_is P steps args input m m' e status out errs started ended stands printed li
     ap (λ (n : ℕ). served_of n out errs) (status_is ∙ ap end_status how_is)
     ∙ ap (λ (text : List ℕ). served_of (end_status (ends P steps args input).how) text errs) out_is
     ∙ ap (λ (text : List ℕ). served_of (end_status (ends P steps args input).how) (ends P steps args input).output text) (line_is ∙ ap (λ (h : RunEnd). end_text P steps h) how_is)
-  where
-    abbrev served_of : ℕ → List ℕ → List ℕ → Served
-    served_of status out errs = record { status = status; out = out; errs = errs }

@@ -50,7 +50,12 @@ fn error_line(alloc: Global, kind: ErrKind, name: &[u8], number: u32) -> Result<
 }
 
 /// The line that says how a run of at most `steps` steps ended.
-pub(crate) fn end_line(alloc: Global, program: &Program, steps: u32, end: RunEnd) -> Result<Vec<u8>, AllocError>
+pub(crate) fn end_line(
+    alloc: Global,
+    program: &Program,
+    steps: u32,
+    end: RunEnd,
+) -> Result<Vec<u8>, AllocError>
     ensures { IfOk result (λ text. text.items ≡ end_text_of program.now steps end) }
 {
     match end {

@@ -7,9 +7,18 @@ use crate::numbers::steps_of;
 
 /// A command with its words.
 pub(crate) enum Request<'a> {
-    Check { file: &'a [u8], cert: &'a [u8] },
-    Core { file: &'a [u8] },
-    Run { file: &'a [u8], steps: u32, args: &'a [Vec<u8>] },
+    Check {
+        file: &'a [u8],
+        cert: &'a [u8],
+    },
+    Core {
+        file: &'a [u8],
+    },
+    Run {
+        file: &'a [u8],
+        steps: u32,
+        args: &'a [Vec<u8>],
+    },
     Unknown,
 }
 

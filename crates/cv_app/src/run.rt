@@ -33,7 +33,9 @@ use std::alloc::Global;
 fn main_place(procs: &[Proc]) -> Option<usize>
     ensures { result ≡ place_of (λ g. g.name) (codes "main") procs.now }
 {
-    procs.iter().position(|g| g.name.as_slice() == b"main".as_slice())
+    procs
+        .iter()
+        .position(|g| g.name.as_slice() == b"main".as_slice())
 }
 
 /// The formals of the procedure at a place.
@@ -58,7 +60,13 @@ fn main_formals(program: &Program) -> &[Formal]
 }
 
 /// Runs main for at most `steps` steps, over this input alone.
-fn run_program(alloc: Global, program: &Program, args: &[Arg], input: Vec<u8>, steps: u32) -> Result<Served, Fault>
+fn run_program(
+    alloc: Global,
+    program: &Program,
+    args: &[Arg],
+    input: Vec<u8>,
+    steps: u32,
+) -> Result<Served, Fault>
     requires within { first_limit program.now ≡ None }
     requires formed { IsSoundProgram program.now }
     requires mains { IsTrue (are_mains program.now args.now) }

@@ -5,8 +5,8 @@ use Rattle.cv_app.proofs.args.args_of.Given as goal
 
 abbrev pub invariant-loop-formals : goal.invariant-loop-formals
 invariant-loop-formals l = record {
-  so_far : option_map (λ more. l.args.items ++ more) (args_of_words l.formals.now (words_of l.words.now)) ≡ args_of_words l.fn.formals.now (words_of l.fn.words.now);
+  so_far : option_map (λ more. l.args.items ++ more) (args_of_words l.formals (words_of l.words)) ≡ args_of_words l.fn.formals (words_of l.fn.words);
 }
 
 abbrev pub decreases-loop-formals : goal.decreases-loop-formals
-decreases-loop-formals l = length l.formals.now
+decreases-loop-formals l = length l.formals
