@@ -1,9 +1,11 @@
 -- What is served is the one answer of a command.
-use Rattle.std.proofs.Common.{Bool, true, false, nat_eq, ◌≡◌, ◌≢◌, ℕ, ◌⊎◌, List, [], Option, None, Some, IfSome, refl, sym, ◌∙◌, ap, rules, arith, inl, inr}
+use Rattle.std.proofs.Common.{Bool, true, false, nat_eq, if◌then◌else◌, codes, ◌≡◌, ◌≢◌, ℕ, ◌⊎◌, List, [], ◌∷◌, Option, None, Some, IfSome, refl, sym, ◌∙◌, ap, rules, arith, inl, inr}
 use Rattle.cv_io.specs.Files.{Files}
 use Rattle.cv_io.specs.Streams.{Appends}
 use Rattle.cv_app.specs.declared.served.Served.{Served}
-use Rattle.cv_app.specs.Commands.{Command, Check, Core, Run, Unknown, IsTold}
+use Rattle.std.specs.Str.{bytes_eq}
+use Rattle.cv_app.specs.Commands.{Command, Check, Core, Run, Unknown, IsTold, run_command, command_of}
+use Rattle.cv_app.specs.Numbers.{steps_of}
 use Rattle.cv_app.specs.Core.{Cores}
 use Rattle.cv_app.specs.Answers.{Answers}
 use Rattle.cv_app.specs.Sinks.{IsSettled, Answered, Becomes, Writes}
@@ -63,3 +65,26 @@ served_exactly (Some files) command served quiet answered exactly t = λ answer 
     by_fate answer h (sinks.Given s o) false true e f = inr (inr (same_number served.status 7 f))
     by_fate answer h (sinks.Given s o) false false e f =
         inl (given_served files command served answer t h s (answered (record { no_read_fault = other_number served.status 5 e; no_write_fault = quiet; memory = other_number served.status 7 f })))
+
+-- ---- the input is told
+
+told_core : (named : Bool) (file : List ℕ) → IsTold (if named then Core file else Unknown)
+told_core true file = tt
+told_core false file = tt
+
+told_run : (named : Bool) (input file : List ℕ) (steps : Option ℕ) (args : List (List ℕ)) → IsTold (if named then run_command (Some input) file steps args else Unknown)
+told_run false input file steps args = tt
+told_run true input file None args = tt
+told_run true input file (Some steps) args = search rules
+
+told_check : (named other : Bool) (input file cert : List ℕ) → IsTold (if named then Check file cert else (if other then run_command (Some input) file (steps_of cert) [] else Unknown))
+told_check true other input file cert = tt
+told_check false other input file cert = told_run other input file (steps_of cert) []
+
+-- a command over an input that is told
+pub told_command : (input : List ℕ) (words : List (List ℕ)) → IsTold (command_of (Some input) words)
+told_command input [] = tt
+told_command input (name ∷ []) = tt
+told_command input (name ∷ file ∷ []) = told_core (bytes_eq name (codes "core")) file
+told_command input (name ∷ file ∷ cert ∷ []) = told_check (bytes_eq name (codes "check")) (bytes_eq name (codes "run")) input file cert
+told_command input (name ∷ file ∷ steps ∷ arg ∷ args) = told_run (bytes_eq name (codes "run")) input file (steps_of steps) (arg ∷ args)
