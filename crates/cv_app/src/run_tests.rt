@@ -28,7 +28,7 @@ const WRITE_AT: &str =
     "1: proc int main(int n)\n{\nbuf b 4;\nptr p;\n2: p = &b;\n3: p = p + n;\n3: store p, 0;\n4: return 0;\n}\n";
 
 const SKIP: &str =
-    "1: proc void skip(int n, pptr p)\nrequires n >= 0, n < alloc(*p);\nmodifies *p, body(*p);\nensures base(*p) == base(pre(*p)), offset(*p) == pre(offset(*p)) + n;\n{\nptr q;\n5: if n <= 0 goto 6;\n6: q = get p;\n6: store q, 10;\n7: q = q + 1;\n7: put p, q;\n8: n = n - 1;\n5: goto 0;\n10: q = get p;\n10: store q, 0;\n10: return;\n}\n12: proc int main(int n)\n{\nbuf b 5;\npcell q;\nptr s;\npptr w;\n15: w = &q;\n15: s = &b;\n15: put w, s;\n16: call skip(n, w);\n17: return 0;\n}\n";
+    "1: proc void skip(int n, pptr p)\nrequires n >= 0, n < alloc(*p);\nmodifies *p, body(*p);\nensures base(*p) == base(pre(*p)), offset(*p) == pre(offset(*p)) + n;\n{\nptr q;\n5: if n <= 0 goto 7;\n6: q = get p;\n6: store q, 10;\n7: q = q + 1;\n7: put p, q;\n8: n = n - 1;\n5: goto 0;\n10: q = get p;\n10: store q, 0;\n10: return;\n}\n12: proc int main(int n)\n{\nbuf b 5;\npcell q;\nptr s;\npptr w;\n15: w = &q;\n15: s = &b;\n15: put w, s;\n16: call skip(n, w);\n17: return 0;\n}\n";
 
 const SCAN: &str =
     "1: proc int main(ptr s)\nrequires nullt(s);\n{\nchar c;\nptr p;\n6: p = s;\n7: c = load p;\n8: if c == 0 goto 6;\n9: p = p + 1;\n10: c = load p;\n8: goto 2;\n12: return 0;\n}\n";
