@@ -17,7 +17,7 @@ use Rattle.cv_app.specs.declared.halt.Halt.{Halt}
 use Rattle.cv_app.specs.declared.halt.Halt.TheVariants.{OfFault, InputLimit}
 use Rattle.cv_app.specs.Answers.{Answers, Refuses, Prints, Ends, IsUsage}
 use Rattle.cv_app.specs.Calls.{reads_input}
-use Rattle.cv_app.specs.Commands.{Run}
+use Rattle.cv_app.specs.Commands.{Command, Run}
 use Rattle.cv_app.specs.Decided.{outcome_of, IsFileFault, IsFound}
 use Rattle.cv_app.specs.Ends.{end_status, end_text}
 use Rattle.cv_app.specs.Faults.{refusal_of, UnlessHindered}
@@ -309,7 +309,7 @@ run_refused told file steps words input halt status out out' errs errs' e e' kno
     elim (run_settled told file halt (λ files answer. IsRunAnswer files file steps words input answer) known h) [
       | inl why ↦ absurd (run_hindered (halted file halt) status errs errs' e e' why reported calm)
       | inr is ↦ answered_reported told (Run file steps words input) (halted file halt) status out out' errs errs' e e' (run_refusal file steps words input halt known).quiet
-      (run_answers told file steps words input (halted file halt) is) same reported calm
+          (run_answers told file steps words input (halted file halt) is) same reported calm
     ]
 
 run_becomes : (files : Files) (file : List ℕ) (steps : ℕ) (words : List (List ℕ)) (input : Option (List ℕ)) (answer : Served) (status : ℕ) (out out' errs errs' : Option (List ℕ)) (e e' : ℕ) →
@@ -338,10 +338,14 @@ run_becomes_end (Some files) file steps words input served status out out' o o' 
     becomes_end served other status out out' o o' errs errs' e e' ending p (h.only t other r)
 
 -- no refusal's status is that of an end
-pub refusal_no_end : (answer : Served) (status : ℕ) (errs errs' : Option (List ℕ)) (e e' : ℕ) → 2 ≤ answer.status → answer.status ≤ 7 →
+refusal_no_end : (answer : Served) (status : ℕ) (errs errs' : Option (List ℕ)) (e e' : ℕ) → 2 ≤ answer.status → answer.status ≤ 7 →
     Reported answer status errs errs' e e' → IsEnding status → ⊥
 refusal_no_end answer status errs errs' e e' high low (sinks.Line s w) ending = no_end status (omega (arith, s, high)) (omega (arith, s, low)) ending
 refusal_no_end answer status errs errs' e e' high low (sinks.Cut s w) ending = no_end status (omega (arith, s)) (omega (arith, s)) ending
+
+pub refused_unended : (told : Option Files) (command : Command) (answer : Served) (status : ℕ) (out out' errs errs' : Option (List ℕ)) (e e' : ℕ) → 2 ≤ answer.status → answer.status ≤ 7 →
+    Reported answer status errs errs' e e' → IsEnding status → RunAnswered told command status out out' errs errs'
+refused_unended told command answer status out out' errs errs' e e' high low reported ending = absurd (refusal_no_end answer status errs errs' e e' high low reported ending)
 
 -- a status 2 that was reported is the refusal's
 pub two_reported : (answer : Served) (status : ℕ) (errs errs' : Option (List ℕ)) (e e' : ℕ) → Reported answer status errs errs' e e' → status ≡ 2 → answer.status ≡ 2

@@ -80,40 +80,31 @@ fn says(rt: &impl Abort, served: &Served, status: u8, out: &str, errs: &str) {
     assert_eq!(rt; served.errs.as_slice(), errs.as_bytes());
 }
 
-/// Runs `main` of a text with one word or none, and tests what is said.
-fn runs(
-    rt: &impl Abort,
-    alloc: Global,
-    text: &str,
-    words: &[&str; 2],
-    status: u8,
-    line: &str,
-) -> Result<(), Fail> {
-    let bare = ["run", "a.core", words[0]];
-    let more = ["run", "a.core", words[0], words[1]];
-    let words = if words[1].is_empty() {
-        bare.as_slice()
-    } else {
-        more.as_slice()
-    };
-    says(rt, &answer(alloc, text, words, b"")?, status, "", line);
-    Ok(())
+/// What `run` answers for so many steps with one word behind them, or with none where it is empty.
+fn answer_with(alloc: Global, text: &str, steps: &str, word: &str) -> Result<Served, AllocError> {
+    let mut words = words_of(alloc, &["run", "a.core", steps])?;
+    if !word.is_empty() {
+        words.push(Vec::from_slice(alloc, word.as_bytes())?)?;
+    }
+    let mut store = store_of(alloc, text)?;
+    serve_words(alloc, &words, &mut store, b"")
 }
 
 #[test]
 fn runs_end_as_defined(rt: HostRuntime) -> Result<(), Fail> {
     let table = [
-        (STRAIGHT, ["4", ""], 0, "returned 0\n"),
-        (STRAIGHT, ["3", ""], 8, "stopped after 3 steps\n"),
-        (STRAIGHT, ["0", ""], 8, "stopped after 0 steps\n"),
-        (STRAIGHT, ["1000000000", ""], 0, "returned 0\n"),
-        (DOWN, ["100", ""], 0, "returned 0\n"),
-        (INC, ["100", "9"], 0, "returned 10\n"),
-        (INC, ["0", "10"], 1, "error Requires in main at line 1\n"),
-        (TEXT, ["100", "abc"], 0, "returned 3\n"),
+        (STRAIGHT, "4", "", 0, "returned 0\n"),
+        (STRAIGHT, "3", "", 8, "stopped after 3 steps\n"),
+        (STRAIGHT, "0", "", 8, "stopped after 0 steps\n"),
+        (STRAIGHT, "1000000000", "", 0, "returned 0\n"),
+        (DOWN, "100", "", 0, "returned 0\n"),
+        (INC, "100", "9", 0, "returned 10\n"),
+        (INC, "0", "10", 1, "error Requires in main at line 1\n"),
+        (TEXT, "100", "abc", 0, "returned 3\n"),
     ];
-    for (text, words, status, line) in &table {
-        runs(&rt, rt.alloc(), text, words, *status, line)?;
+    for (text, steps, word, status, line) in &table {
+        let served = answer_with(rt.alloc(), text, steps, word)?;
+        says(&rt, &served, *status, "", line);
     }
     Ok(())
 }
@@ -121,27 +112,18 @@ fn runs_end_as_defined(rt: HostRuntime) -> Result<(), Fail> {
 #[test]
 fn errors_of_memory_are_named(rt: HostRuntime) -> Result<(), Fail> {
     let table = [
-        (WRITE_AT, ["100", "3"], 0, "returned 0\n"),
-        (
-            WRITE_AT,
-            ["100", "4"],
-            1,
-            "error Bounds in main at line 3\n",
-        ),
-        (SKIP, ["100", "4"], 0, "returned 0\n"),
-        (SKIP, ["100", "5"], 1, "error Requires in main at line 16\n"),
-        (SCAN, ["100", "ab"], 0, "returned 0\n"),
-        (LENGTH, ["100", ""], 0, "returned 3\n"),
-        (
-            BEHIND,
-            ["100", ""],
-            1,
-            "error Terminator in main at line 6\n",
-        ),
-        (BAD, ["100", ""], 1, "error Dead in bad at line 3\n"),
+        (WRITE_AT, "100", "3", 0, "returned 0\n"),
+        (WRITE_AT, "100", "4", 1, "error Bounds in main at line 3\n"),
+        (SKIP, "100", "4", 0, "returned 0\n"),
+        (SKIP, "100", "5", 1, "error Requires in main at line 16\n"),
+        (SCAN, "100", "ab", 0, "returned 0\n"),
+        (LENGTH, "100", "", 0, "returned 3\n"),
+        (BEHIND, "100", "", 1, "error Terminator in main at line 6\n"),
+        (BAD, "100", "", 1, "error Dead in bad at line 3\n"),
     ];
-    for (text, words, status, line) in &table {
-        runs(&rt, rt.alloc(), text, words, *status, line)?;
+    for (text, steps, word, status, line) in &table {
+        let served = answer_with(rt.alloc(), text, steps, word)?;
+        says(&rt, &served, *status, "", line);
     }
     Ok(())
 }
@@ -155,7 +137,8 @@ fn buffers_of_any_size_are_made(rt: HostRuntime) -> Result<(), Fail> {
         ("100000", 0, "returned 0\n"),
     ];
     for (size, status, line) in &table {
-        runs(&rt, rt.alloc(), MAKE, &["100", size], *status, line)?;
+        let served = answer_with(rt.alloc(), MAKE, "100", size)?;
+        says(&rt, &served, *status, "", line);
     }
     Ok(())
 }
@@ -199,15 +182,9 @@ fn other_words_are_refused(rt: HostRuntime) -> Result<(), Fail> {
         ["9", "2147483648"],
         ["9", "+1"],
     ];
-    for [steps, arg] in &table {
-        let bare = ["run", "a.core", steps];
-        let more = ["run", "a.core", steps, arg];
-        let words = if arg.is_empty() {
-            bare.as_slice()
-        } else {
-            more.as_slice()
-        };
-        says(&rt, &answer(rt.alloc(), INC, words, b"")?, 2, "", USAGE);
+    for [steps, word] in &table {
+        let served = answer_with(rt.alloc(), INC, steps, word)?;
+        says(&rt, &served, 2, "", USAGE);
     }
     Ok(())
 }

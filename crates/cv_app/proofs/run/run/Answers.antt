@@ -4,7 +4,7 @@ use Rattle.cv_app.specs.declared.served.Served.{Served}
 use Rattle.cv_app.specs.Commands.{Run, words_of}
 use Rattle.cv_app.specs.Halts.{halted}
 use Rattle.cv_app.proofs.Outcomes.{answered_end, run_answered_end, prints_end, refuses_end, faults_end, prints_reported, refuses_reported, faults_reported}
-use Rattle.cv_app.proofs.RunLemmas.{run_answers, is_ending, run_becomes_end, run_write_fault, run_memory, run_refusal, run_refused, run_becomes_refusal, refusal_no_end, two_reported}
+use Rattle.cv_app.proofs.RunLemmas.{run_answers, is_ending, run_becomes_end, run_write_fault, run_memory, run_refusal, run_refused, run_becomes_refusal, refused_unended, two_reported}
 use Rattle.cv_app.proofs.run.run.Goals as goal
 
 abbrev stopped_by : Halt → Result Served Halt
@@ -56,7 +56,7 @@ returns-in-Err-clause-answered g c = λ calm.
 pub returns-in-Err-clause-ended : goal.returns-in-Err-clause-ended
 returns-in-Err-clause-ended g c = λ ending.
     let facts = run_refusal c.args.file.now c.args.steps (words_of c.args.words.now) (g.I.Source.content c.args.input.now) c.in-Err.halt c.in-Err.ensures.halts in
-    absurd (refusal_no_end (halted c.args.file.now c.in-Err.halt) c.report_halt.result (g.E.Sink.content c.args.errs.now) (g.E.Sink.content c.report_halt.new.errs) (g.E.Sink.faults c.args.errs.now) (g.E.Sink.faults c.report_halt.new.errs) facts.high facts.low c.report_halt.ensures ending)
+    refused_unended (g.S.Store.content c.args.store.now) (Run c.args.file.now c.args.steps (words_of c.args.words.now) (g.I.Source.content c.args.input.now)) (halted c.args.file.now c.in-Err.halt) c.report_halt.result (g.O.Sink.content c.args.out.now) (g.O.Sink.content c.args.out.now) (g.E.Sink.content c.args.errs.now) (g.E.Sink.content c.report_halt.new.errs) (g.E.Sink.faults c.args.errs.now) (g.E.Sink.faults c.report_halt.new.errs) facts.high facts.low c.report_halt.ensures ending
 
 pub returns-in-Err-clause-exactly : goal.returns-in-Err-clause-exactly
 returns-in-Err-clause-exactly g c = λ known.
