@@ -231,9 +231,9 @@ pub becomes_refusal : (told : Option Files) (file cert : List ℕ) (fault : Faul
 becomes_refusal None file cert fault status out out' errs errs' e e' known decided same reported = search rules
 becomes_refusal (Some files) file cert Usage status out out' errs errs' e e' known decided same reported = absurd known
 becomes_refusal (Some files) file cert Read status out out' errs errs' e e' known decided same reported = λ answer is.
-    becomes_hindered (refusal_of file Read) answer status out out' errs errs' e e' (inl refl) same reported (no_usage files file cert answer is)
+    becomes_hindered (refusal_of file Read) answer status out out' errs errs' e e' (inl refl) same reported
 becomes_refusal (Some files) file cert Memory status out out' errs errs' e e' known decided same reported = λ answer is.
-    becomes_hindered (refusal_of file Memory) answer status out out' errs errs' e e' (inr refl) same reported (no_usage files file cert answer is)
+    becomes_hindered (refusal_of file Memory) answer status out out' errs errs' e e' (inr refl) same reported
 becomes_refusal (Some files) file cert fault status out out' errs errs' e e' known decided same reported = λ answer is.
     becomes_reported (refusal_of file fault) answer status out out' errs errs' e e' refl same reported (one_check files file cert answer _ is decided)
 

@@ -352,7 +352,7 @@ core_becomes : (files : Files) (file : List ℕ) (answer : Served) (status : ℕ
     (((answer.status ≡ 5) ⊎ (answer.status ≡ 7)) ⊎ IsCoreAnswer files file answer) → answer.out ≡ [] → out' ≡ out →
     Reported answer status errs errs' e e' → (other : Served) → Cores files file other → Becomes other status out out'
 core_becomes files file answer status out out' errs errs' e e' (inl why) quiet same reported other c =
-    becomes_hindered answer other status out out' errs errs' e e' why same reported (core_no_usage files file other c)
+    becomes_hindered answer other status out out' errs errs' e e' why same reported
 core_becomes files file answer status out out' errs errs' e e' (inr is) quiet same reported other c =
     becomes_reported answer other status out out' errs errs' e e' quiet same reported (is.only other c)
 

@@ -4,3 +4,6 @@ pub mod Decisions
 pub mod Outcomes
 pub mod FileLemmas
 pub mod ServedLemmas
+pub mod RunLemmas
+pub mod NumberLemmas
+pub mod InputLemmas

@@ -4,10 +4,10 @@ use Rattle.cv_io.specs.Counts.{Rose}
 use Rattle.cv_io.specs.Files.{Files}
 use Rattle.cv_io.specs.Streams.{extended, Appends, AppendsPrefix}
 use Rattle.cv_app.specs.declared.served.Served.{Served}
-use Rattle.cv_app.specs.Commands.{Command}
+use Rattle.cv_app.specs.Commands.{Command, IsRun}
 use Rattle.cv_app.specs.Texts.{write_fault_text, no_memory_text}
-use Rattle.cv_app.specs.Answers.{Answers, Prints, Refuses}
-use Rattle.cv_app.specs.Sinks.{Writes, WritesOneOf, Printed, Reported, IsSettled, Answered, Becomes, PrintsBy, RefusesBy}
+use Rattle.cv_app.specs.Answers.{Answers, Prints, Ends, Refuses}
+use Rattle.cv_app.specs.Sinks.{Writes, WritesOneOf, Printed, Reported, IsEnding, IsSettled, Answered, RunAnswered, PrintedEnd, Becomes, PrintsBy, RefusesBy}
 use Rattle.cv_app.specs.Sinks as sinks
 
 -- nothing appended
@@ -41,7 +41,7 @@ pub becomes_printed : (answer other : Served) (status : ℕ) (out out' : Option 
 becomes_printed answer other status out out' o o' errs errs' e e' low (sinks.Whole s a same) is =
     subst (λ (v : Served). Becomes v status out out') (sym is) (sinks.Given s a)
 becomes_printed answer other status out out' o o' errs errs' e e' low (sinks.WriteFault s r p w) is =
-    subst (λ (v : Served). Becomes v status out out') (sym is) (sinks.WriteFault low s p)
+    subst (λ (v : Served). Becomes v status out out') (sym is) (sinks.WriteFault (inl low) s p)
 becomes_printed answer other status out out' o o' errs errs' e e' low (sinks.NoMemory s p w) is =
     subst (λ (v : Served). Becomes v status out out') (sym is) (sinks.NoMemory s p)
 
@@ -50,42 +50,49 @@ pub prints_printed : (command : Command) (answer : Served) (status : ℕ) (out o
     Printed answer status out out' o o' errs errs' e e' → PrintsBy command status out out'
 prints_printed command answer status out out' o o' errs errs' e e' low text (sinks.Whole s a same) = record {
   whole = λ h. (answer.out, subst (λ (n : ℕ). Prints command n answer.out) (sym s) text, a);
+  stopped = λ h. absurd (omega (arith, s, low));
   nothing = λ h k. absurd (omega (arith, s, low));
-  cut_short = λ h. absurd (omega (arith, s, low));
+  cut_short = λ h k. absurd (omega (arith, s, low));
 }
 prints_printed command answer status out out' o o' errs errs' e e' low text (sinks.WriteFault s r p w) = record {
   whole = λ h. absurd (omega (arith, s));
+  stopped = λ h. absurd (omega (arith, s));
   nothing = λ h k. absurd (omega (arith, s));
-  cut_short = λ h. inr (answer.status, answer.out, text, p);
+  cut_short = λ h k. inr (answer.status, answer.out, text, p);
 }
 prints_printed command answer status out out' o o' errs errs' e e' low text (sinks.NoMemory s p w) = record {
   whole = λ h. absurd (omega (arith, s));
+  stopped = λ h. absurd (omega (arith, s));
   nothing = λ h k. absurd (omega (arith, s));
-  cut_short = λ h. inr (answer.status, answer.out, text, p);
+  cut_short = λ h k. inr (answer.status, answer.out, text, p);
 }
 
 pub refuses_printed : (command : Command) (answer : Served) (status : ℕ) (out out' : Option (List ℕ)) (o o' : ℕ)
-    (errs errs' : Option (List ℕ)) (e e' : ℕ) → answer.status ≤ 1 → Refuses command 6 write_fault_text → Refuses command 7 no_memory_text →
+    (errs errs' : Option (List ℕ)) (e e' : ℕ) → (IsRun command → ⊥) → answer.status ≤ 1 → Refuses command 6 write_fault_text → Refuses command 7 no_memory_text →
     Printed answer status out out' o o' errs errs' e e' → RefusesBy command status errs errs' e e'
-refuses_printed command answer status out out' o o' errs errs' e e' low write memory (sinks.Whole s a same) = record {
-  nothing = λ h. same;
+refuses_printed command answer status out out' o o' errs errs' e e' silent low write memory (sinks.Whole s a same) = record {
+  nothing = λ q h. same;
+  ended = λ r h. absurd (silent r);
   whole = λ h k. absurd (omega (arith, s, low));
   cut_short = λ h. absurd (omega (arith, s, low));
 }
-refuses_printed command answer status out out' o o' errs errs' e e' low write memory (sinks.WriteFault s r p w) = record {
-  nothing = λ h. absurd (omega (arith, s));
-  whole = λ h k. (write_fault_text, subst (λ (n : ℕ). Refuses command n write_fault_text) (sym s) write, w);
+refuses_printed command answer status out out' o o' errs errs' e e' silent low write memory (sinks.WriteFault s r p w) = record {
+  nothing = λ q h. absurd (omega (arith, s));
+  ended = λ r h. absurd (silent r);
+  whole = λ h k. inl (write_fault_text, subst (λ (n : ℕ). Refuses command n write_fault_text) (sym s) write, w);
   cut_short = λ h. absurd (omega (arith, s));
 }
-refuses_printed command answer status out out' o o' errs errs' e e' low write memory (sinks.NoMemory s p (inl w)) = record {
-  nothing = λ h. absurd (omega (arith, s));
+refuses_printed command answer status out out' o o' errs errs' e e' silent low write memory (sinks.NoMemory s p (inl w)) = record {
+  nothing = λ q h. absurd (omega (arith, s));
+  ended = λ r h. absurd (silent r);
   whole = λ h k. absurd (omega (arith, s));
-  cut_short = λ h. (6, write_fault_text, write, w);
+  cut_short = λ h. inl (6, write_fault_text, write, w);
 }
-refuses_printed command answer status out out' o o' errs errs' e e' low write memory (sinks.NoMemory s p (inr w)) = record {
-  nothing = λ h. absurd (omega (arith, s));
+refuses_printed command answer status out out' o o' errs errs' e e' silent low write memory (sinks.NoMemory s p (inr w)) = record {
+  nothing = λ q h. absurd (omega (arith, s));
+  ended = λ r h. absurd (silent r);
   whole = λ h k. absurd (omega (arith, s));
-  cut_short = λ h. (7, no_memory_text, memory, w);
+  cut_short = λ h. inl (7, no_memory_text, memory, w);
 }
 
 pub faults_printed : (answer : Served) (status : ℕ) (out out' : Option (List ℕ)) (o o' : ℕ)
@@ -99,6 +106,11 @@ faults_printed answer status out out' o o' errs errs' e e' low (sinks.NoMemory s
     (λ h. absurd (omega (arith, s)), omega (arith, s), λ h. absurd (omega (arith, s)))
 
 -- ---- a line that was reported
+
+-- a refusal's status is none of an answer
+pub no_end : (status : ℕ) → 2 ≤ status → status ≤ 7 → IsEnding status → ⊥
+no_end status high low (inl h) = omega arith
+no_end status high low (inr h) = omega arith
 
 pub answered_reported : (told : Option Files) (command : Command) (answer : Served) (status : ℕ) (out out' : Option (List ℕ))
     (errs errs' : Option (List ℕ)) (e e' : ℕ) → answer.out ≡ [] → Answers told command answer → out' ≡ out →
@@ -116,48 +128,54 @@ becomes_reported answer other status out out' errs errs' e e' quiet same (sinks.
 
 -- a fault of reading and want of memory come before any answer
 pub becomes_hindered : (answer other : Served) (status : ℕ) (out out' : Option (List ℕ)) (errs errs' : Option (List ℕ)) (e e' : ℕ) →
-    (answer.status ≡ 5) ⊎ (answer.status ≡ 7) → out' ≡ out → Reported answer status errs errs' e e' → other.status ≢ 2 → Becomes other status out out'
-becomes_hindered answer other status out out' errs errs' e e' (inl five) same (sinks.Line s w) known = sinks.ReadFault known (omega (arith, s, five)) same
-becomes_hindered answer other status out out' errs errs' e e' (inr seven) same (sinks.Line s w) known =
+    (answer.status ≡ 5) ⊎ (answer.status ≡ 7) → out' ≡ out → Reported answer status errs errs' e e' → Becomes other status out out'
+becomes_hindered answer other status out out' errs errs' e e' (inl five) same (sinks.Line s w) = sinks.ReadFault (omega (arith, s, five)) same
+becomes_hindered answer other status out out' errs errs' e e' (inr seven) same (sinks.Line s w) =
     sinks.NoMemory (omega (arith, s, seven)) (prefix_nothing out out' other.out same)
-becomes_hindered answer other status out out' errs errs' e e' why same (sinks.Cut s w) known = sinks.NoMemory s (prefix_nothing out out' other.out same)
+becomes_hindered answer other status out out' errs errs' e e' why same (sinks.Cut s w) = sinks.NoMemory s (prefix_nothing out out' other.out same)
 
 pub prints_reported : (command : Command) (answer : Served) (status : ℕ) (out out' : Option (List ℕ))
-    (errs errs' : Option (List ℕ)) (e e' : ℕ) → 2 ≤ answer.status → out' ≡ out →
+    (errs errs' : Option (List ℕ)) (e e' : ℕ) → 2 ≤ answer.status → answer.status ≤ 7 → out' ≡ out →
     Reported answer status errs errs' e e' → PrintsBy command status out out'
-prints_reported command answer status out out' errs errs' e e' high same (sinks.Line s w) = record {
+prints_reported command answer status out out' errs errs' e e' high low same (sinks.Line s w) = record {
   whole = λ h. absurd (omega (arith, s, high));
+  stopped = λ h. absurd (omega (arith, s, low));
   nothing = λ h k. same;
-  cut_short = λ h. inl same;
+  cut_short = λ h k. inl same;
 }
-prints_reported command answer status out out' errs errs' e e' high same (sinks.Cut s w) = record {
+prints_reported command answer status out out' errs errs' e e' high low same (sinks.Cut s w) = record {
   whole = λ h. absurd (omega (arith, s));
+  stopped = λ h. absurd (omega (arith, s));
   nothing = λ h k. same;
-  cut_short = λ h. inl same;
+  cut_short = λ h k. inl same;
 }
 
-pub refuses_reported : (command : Command) (answer : Served) (status : ℕ) (errs errs' : Option (List ℕ)) (e e' : ℕ) → 2 ≤ answer.status →
+pub refuses_reported : (command : Command) (answer : Served) (status : ℕ) (errs errs' : Option (List ℕ)) (e e' : ℕ) → 2 ≤ answer.status → answer.status ≤ 7 →
     Refuses command answer.status answer.errs → Refuses command 7 no_memory_text →
     Reported answer status errs errs' e e' → RefusesBy command status errs errs' e e'
-refuses_reported command answer status errs errs' e e' high line memory (sinks.Line s (inl w)) = record {
-  nothing = λ h. absurd (omega (arith, s, high));
-  whole = λ h k. (answer.errs, subst (λ (n : ℕ). Refuses command n answer.errs) (sym s) line, inl w);
-  cut_short = λ h. (answer.status, answer.errs, line, whole_prefix errs errs' answer.errs w);
+refuses_reported command answer status errs errs' e e' high low line memory (sinks.Line s (inl w)) = record {
+  nothing = λ q h. absurd (omega (arith, s, high));
+  ended = λ r h. absurd (no_end status (omega (arith, s, high)) (omega (arith, s, low)) h);
+  whole = λ h k. inl (answer.errs, subst (λ (n : ℕ). Refuses command n answer.errs) (sym s) line, inl w);
+  cut_short = λ h. inl (answer.status, answer.errs, line, whole_prefix errs errs' answer.errs w);
 }
-refuses_reported command answer status errs errs' e e' high line memory (sinks.Line s (inr w)) = record {
-  nothing = λ h. absurd (omega (arith, s, high));
-  whole = λ h k. (answer.errs, subst (λ (n : ℕ). Refuses command n answer.errs) (sym s) line, inr w);
-  cut_short = λ h. (answer.status, answer.errs, line, w.1);
+refuses_reported command answer status errs errs' e e' high low line memory (sinks.Line s (inr w)) = record {
+  nothing = λ q h. absurd (omega (arith, s, high));
+  ended = λ r h. absurd (no_end status (omega (arith, s, high)) (omega (arith, s, low)) h);
+  whole = λ h k. inl (answer.errs, subst (λ (n : ℕ). Refuses command n answer.errs) (sym s) line, inr w);
+  cut_short = λ h. inl (answer.status, answer.errs, line, w.1);
 }
-refuses_reported command answer status errs errs' e e' high line memory (sinks.Cut s (inl w)) = record {
-  nothing = λ h. absurd (omega (arith, s));
+refuses_reported command answer status errs errs' e e' high low line memory (sinks.Cut s (inl w)) = record {
+  nothing = λ q h. absurd (omega (arith, s));
+  ended = λ r h. absurd (no_end status (omega (arith, s)) (omega (arith, s)) h);
   whole = λ h k. absurd (omega (arith, s));
-  cut_short = λ h. (answer.status, answer.errs, line, w);
+  cut_short = λ h. inl (answer.status, answer.errs, line, w);
 }
-refuses_reported command answer status errs errs' e e' high line memory (sinks.Cut s (inr w)) = record {
-  nothing = λ h. absurd (omega (arith, s));
+refuses_reported command answer status errs errs' e e' high low line memory (sinks.Cut s (inr w)) = record {
+  nothing = λ q h. absurd (omega (arith, s));
+  ended = λ r h. absurd (no_end status (omega (arith, s)) (omega (arith, s)) h);
   whole = λ h k. absurd (omega (arith, s));
-  cut_short = λ h. (7, no_memory_text, memory, w);
+  cut_short = λ h. inl (7, no_memory_text, memory, w);
 }
 
 pub faults_reported : (answer : Served) (status : ℕ) (errs errs' : Option (List ℕ)) (e e' : ℕ) → answer.status ≤ 7 → answer.status ≢ 6 → answer.status ≢ 0 →
@@ -165,4 +183,136 @@ pub faults_reported : (answer : Served) (status : ℕ) (errs errs' : Option (Lis
 faults_reported answer status errs errs' e e' high no_six no_zero (sinks.Line s w) =
     (λ h. no_six (sym s ∙ h), omega (arith, s, high), λ h. no_zero (sym s ∙ h), λ h. sym s ∙ h)
 faults_reported answer status errs errs' e e' high no_six no_zero (sinks.Cut s w) =
+    (λ h. absurd (omega (arith, s)), omega (arith, s), λ h. absurd (omega (arith, s)), λ h. absurd (omega (arith, s)))
+
+-- ---- the end of a run that was printed
+
+pub answered_end : (told : Option Files) (command : Command) (answer : Served) (status : ℕ) (out out' : Option (List ℕ)) (o o' : ℕ)
+    (errs errs' : Option (List ℕ)) (e e' : ℕ) → Answers told command answer →
+    PrintedEnd answer status out out' o o' errs errs' e e' → IsSettled status → Answered told command status out out' errs errs' e e'
+answered_end told command answer status out out' o o' errs errs' e e' is (sinks.Both s a l) settled =
+    record { answer = answer; is = is; status_is = s; printed = a; refused = inl l }
+answered_end told command answer status out out' o o' errs errs' e e' is (sinks.OutputFault s r p w) settled = absurd (settled.no_write_fault s)
+answered_end told command answer status out out' o o' errs errs' e e' is (sinks.LineFault s r p w) settled = absurd (settled.no_write_fault s)
+answered_end told command answer status out out' o o' errs errs' e e' is (sinks.NoMemoryForOutput s p w) settled = absurd (settled.memory s)
+answered_end told command answer status out out' o o' errs errs' e e' is (sinks.NoMemoryForLine s p w) settled = absurd (settled.memory s)
+
+pub run_answered_end : (told : Option Files) (command : Command) (answer : Served) (status : ℕ) (out out' : Option (List ℕ)) (o o' : ℕ)
+    (errs errs' : Option (List ℕ)) (e e' : ℕ) → Answers told command answer →
+    PrintedEnd answer status out out' o o' errs errs' e e' → IsEnding status → RunAnswered told command status out out' errs errs'
+run_answered_end told command answer status out out' o o' errs errs' e e' is (sinks.Both s a l) ending =
+    record { answer = answer; is = is; status_is = s; printed = a; line = l }
+run_answered_end told command answer status out out' o o' errs errs' e e' is (sinks.OutputFault s r p w) ending = absurd (no_end status (omega (arith, s)) (omega (arith, s)) ending)
+run_answered_end told command answer status out out' o o' errs errs' e e' is (sinks.LineFault s r p w) ending = absurd (no_end status (omega (arith, s)) (omega (arith, s)) ending)
+run_answered_end told command answer status out out' o o' errs errs' e e' is (sinks.NoMemoryForOutput s p w) ending = absurd (no_end status (omega (arith, s)) (omega (arith, s)) ending)
+run_answered_end told command answer status out out' o o' errs errs' e e' is (sinks.NoMemoryForLine s p w) ending = absurd (no_end status (omega (arith, s)) (omega (arith, s)) ending)
+
+pub becomes_end : (answer other : Served) (status : ℕ) (out out' : Option (List ℕ)) (o o' : ℕ)
+    (errs errs' : Option (List ℕ)) (e e' : ℕ) → IsEnding answer.status →
+    PrintedEnd answer status out out' o o' errs errs' e e' → other ≡ answer → Becomes other status out out'
+becomes_end answer other status out out' o o' errs errs' e e' ending (sinks.Both s a l) is =
+    subst (λ (v : Served). Becomes v status out out') (sym is) (sinks.Given s a)
+becomes_end answer other status out out' o o' errs errs' e e' ending (sinks.OutputFault s r p w) is =
+    subst (λ (v : Served). Becomes v status out out') (sym is) (sinks.WriteFault ending s p)
+becomes_end answer other status out out' o o' errs errs' e e' ending (sinks.LineFault s r p w) is =
+    subst (λ (v : Served). Becomes v status out out') (sym is) (sinks.WriteFault ending s (whole_prefix out out' answer.out p))
+becomes_end answer other status out out' o o' errs errs' e e' ending (sinks.NoMemoryForOutput s p w) is =
+    subst (λ (v : Served). Becomes v status out out') (sym is) (sinks.NoMemory s p)
+becomes_end answer other status out out' o o' errs errs' e e' ending (sinks.NoMemoryForLine s p w) is =
+    subst (λ (v : Served). Becomes v status out out') (sym is) (sinks.NoMemory s (whole_prefix out out' answer.out p))
+
+pub prints_end : (command : Command) (answer : Served) (status : ℕ) (out out' : Option (List ℕ)) (o o' : ℕ)
+    (errs errs' : Option (List ℕ)) (e e' : ℕ) → IsEnding answer.status → Prints command answer.status answer.out →
+    PrintedEnd answer status out out' o o' errs errs' e e' → PrintsBy command status out out'
+prints_end command answer status out out' o o' errs errs' e e' ending text (sinks.Both s a l) =
+    let here : Prints command status answer.out = subst (λ (n : ℕ). Prints command n answer.out) (sym s) text in
+    let no_refusal : 2 ≤ status → status ≤ 7 → ⊥ = λ h k. no_end answer.status (omega (arith, s)) (omega (arith, s)) ending in
+    record {
+      whole = λ h. (answer.out, here, a);
+      stopped = λ h. (answer.out, here, a);
+      nothing = λ h k. absurd (no_refusal h (omega arith));
+      cut_short = λ h k. absurd (no_refusal (omega arith) k);
+    }
+prints_end command answer status out out' o o' errs errs' e e' ending text (sinks.OutputFault s r p w) = record {
+  whole = λ h. absurd (omega (arith, s));
+  stopped = λ h. absurd (omega (arith, s));
+  nothing = λ h k. absurd (omega (arith, s));
+  cut_short = λ h k. inr (answer.status, answer.out, text, p);
+}
+prints_end command answer status out out' o o' errs errs' e e' ending text (sinks.LineFault s r p w) = record {
+  whole = λ h. absurd (omega (arith, s));
+  stopped = λ h. absurd (omega (arith, s));
+  nothing = λ h k. absurd (omega (arith, s));
+  cut_short = λ h k. inr (answer.status, answer.out, text, whole_prefix out out' answer.out p);
+}
+prints_end command answer status out out' o o' errs errs' e e' ending text (sinks.NoMemoryForOutput s p w) = record {
+  whole = λ h. absurd (omega (arith, s));
+  stopped = λ h. absurd (omega (arith, s));
+  nothing = λ h k. absurd (omega (arith, s));
+  cut_short = λ h k. inr (answer.status, answer.out, text, p);
+}
+prints_end command answer status out out' o o' errs errs' e e' ending text (sinks.NoMemoryForLine s p w) = record {
+  whole = λ h. absurd (omega (arith, s));
+  stopped = λ h. absurd (omega (arith, s));
+  nothing = λ h k. absurd (omega (arith, s));
+  cut_short = λ h k. inr (answer.status, answer.out, text, whole_prefix out out' answer.out p);
+}
+
+pub refuses_end : (command : Command) (answer : Served) (status : ℕ) (out out' : Option (List ℕ)) (o o' : ℕ)
+    (errs errs' : Option (List ℕ)) (e e' : ℕ) → IsRun command → IsEnding answer.status → Ends command answer.status answer.errs →
+    Refuses command 6 write_fault_text → Refuses command 7 no_memory_text →
+    PrintedEnd answer status out out' o o' errs errs' e e' → RefusesBy command status errs errs' e e'
+refuses_end command answer status out out' o o' errs errs' e e' run ending text write memory (sinks.Both s a l) =
+    let no_refusal : 2 ≤ status → status ≤ 7 → ⊥ = λ h k. no_end answer.status (omega (arith, s)) (omega (arith, s)) ending in
+    record {
+      nothing = λ q h. absurd (q run);
+      ended = λ r h. (answer.errs, subst (λ (n : ℕ). Ends command n answer.errs) (sym s) text, l);
+      whole = λ h k. absurd (no_refusal h (omega arith));
+      cut_short = λ h. absurd (no_refusal (omega (arith, h)) (omega (arith, h)));
+    }
+refuses_end command answer status out out' o o' errs errs' e e' run ending text write memory (sinks.OutputFault s r p w) = record {
+  nothing = λ q h. absurd (q run);
+  ended = λ _ h. absurd (no_end status (omega (arith, s)) (omega (arith, s)) h);
+  whole = λ h k. inl (write_fault_text, subst (λ (n : ℕ). Refuses command n write_fault_text) (sym s) write, w);
+  cut_short = λ h. absurd (omega (arith, s));
+}
+refuses_end command answer status out out' o o' errs errs' e e' run ending text write memory (sinks.LineFault s r p w) = record {
+  nothing = λ q h. absurd (q run);
+  ended = λ _ h. absurd (no_end status (omega (arith, s)) (omega (arith, s)) h);
+  whole = λ h k. inr (s, r, (answer.status, answer.errs, text, w));
+  cut_short = λ h. absurd (omega (arith, s));
+}
+refuses_end command answer status out out' o o' errs errs' e e' run ending text write memory (sinks.NoMemoryForOutput s p (inl w)) = record {
+  nothing = λ q h. absurd (q run);
+  ended = λ _ h. absurd (no_end status (omega (arith, s)) (omega (arith, s)) h);
+  whole = λ h k. absurd (omega (arith, s));
+  cut_short = λ h. inl (6, write_fault_text, write, w);
+}
+refuses_end command answer status out out' o o' errs errs' e e' run ending text write memory (sinks.NoMemoryForOutput s p (inr w)) = record {
+  nothing = λ q h. absurd (q run);
+  ended = λ _ h. absurd (no_end status (omega (arith, s)) (omega (arith, s)) h);
+  whole = λ h k. absurd (omega (arith, s));
+  cut_short = λ h. inl (7, no_memory_text, memory, w);
+}
+refuses_end command answer status out out' o o' errs errs' e e' run ending text write memory (sinks.NoMemoryForLine s p w) = record {
+  nothing = λ q h. absurd (q run);
+  ended = λ _ h. absurd (no_end status (omega (arith, s)) (omega (arith, s)) h);
+  whole = λ h k. absurd (omega (arith, s));
+  cut_short = λ h. inr (answer.status, answer.errs, text, w);
+}
+
+pub faults_end : (answer : Served) (status : ℕ) (out out' : Option (List ℕ)) (o o' : ℕ)
+    (errs errs' : Option (List ℕ)) (e e' : ℕ) → IsEnding answer.status →
+    PrintedEnd answer status out out' o o' errs errs' e e' → (status ≢ 5) × (status ≤ 8) × (status ≢ 2) × (status ≡ 6 → Rose o o' ⊎ Rose e e')
+faults_end answer status out out' o o' errs errs' e e' (inl low) (sinks.Both s a l) =
+    (λ h. absurd (omega (arith, s, low)), omega (arith, s, low), λ h. absurd (omega (arith, s, low)), λ h. absurd (omega (arith, s, low)))
+faults_end answer status out out' o o' errs errs' e e' (inr eight) (sinks.Both s a l) =
+    (λ h. absurd (omega (arith, s, eight)), omega (arith, s, eight), λ h. absurd (omega (arith, s, eight)), λ h. absurd (omega (arith, s, eight)))
+faults_end answer status out out' o o' errs errs' e e' ending (sinks.OutputFault s r p w) =
+    (λ h. absurd (omega (arith, s)), omega (arith, s), λ h. absurd (omega (arith, s)), λ h. inl r)
+faults_end answer status out out' o o' errs errs' e e' ending (sinks.LineFault s r p w) =
+    (λ h. absurd (omega (arith, s)), omega (arith, s), λ h. absurd (omega (arith, s)), λ h. inr r)
+faults_end answer status out out' o o' errs errs' e e' ending (sinks.NoMemoryForOutput s p w) =
+    (λ h. absurd (omega (arith, s)), omega (arith, s), λ h. absurd (omega (arith, s)), λ h. absurd (omega (arith, s)))
+faults_end answer status out out' o o' errs errs' e e' ending (sinks.NoMemoryForLine s p w) =
     (λ h. absurd (omega (arith, s)), omega (arith, s), λ h. absurd (omega (arith, s)), λ h. absurd (omega (arith, s)))

@@ -10,3 +10,10 @@ pub mod Sinks
 pub mod Faults
 pub mod Decided
 pub mod Requests
+pub mod Numbers
+pub mod Halts
+pub mod Calls
+pub mod Ends
+pub mod Args
+pub mod Runs
+pub mod RunDecided

@@ -79,6 +79,9 @@ file_limit_text = limit_text limit.File
 abbrev pub certificate_limit_text : List ℕ
 certificate_limit_text = limit_text limit.Certificate
 
+abbrev pub input_limit_text : List ℕ
+input_limit_text = limit_text limit.Input
+
 abbrev pub read_fault_text : List ℕ
 read_fault_text = line (codes "read fault")
 

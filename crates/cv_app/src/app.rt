@@ -2,22 +2,24 @@
 ghost use Rattle.std.specs.Prelude.{◌≡◌, ◌≢◌, ◌≤◌, ◌⊎◌, ℕ, List, [], ◌∷◌, codes, map, Some, IfOk, IfSome};
 ghost use Rattle.cv_io.specs.Counts.{Rose};
 ghost use Rattle.cv_app.specs.declared.served.Served.{Served as Answer};
-ghost use Rattle.cv_app.specs.Answers.{Answers, LoadFailed};
+ghost use Rattle.cv_app.specs.Answers.{Answers, LoadFailed, RunFailed, IsUsage};
 ghost use Rattle.cv_app.specs.Check.{HasCleanProgram};
-ghost use Rattle.cv_app.specs.Commands.{Unknown, command_of, words_of};
-ghost use Rattle.cv_app.specs.Sinks.{IsSettled, Answered, Becomes, PrintsBy, RefusesBy};
+ghost use Rattle.cv_app.specs.Commands.{Unknown, IsRun, IsTold, command_of, words_of};
+ghost use Rattle.cv_app.specs.Sinks.{IsSettled, IsEnding, Answered, RunAnswered, Becomes, PrintsBy, RefusesBy};
 
 use crate::check::check;
 use crate::fault::{Fault, report};
 use crate::print_command::print_command;
 use crate::request::{Request, request_of};
+use crate::run::run;
 use crate::served::Served;
 use cv_io::{Sink, Source, SteadySink, SteadySource, Store};
 use cv_list::Bytes;
 use std::alloc::{AllocError, Global};
 
 /// Does what the words ask for, over these devices, and answers the status of the program:
-/// 0 accepted, 1 rejected, 2 usage, 3 fault of the file, 4 limit, 5 read fault, 6 write fault, 7 want of memory.
+/// 0 accepted, printed, or the run returned, 1 rejected, or the run erred, 2 usage, 3 fault of the file, 4 limit,
+/// 5 read fault, 6 write fault, 7 want of memory, 8 the run was stopped.
 /// The words are those after the program's name, and may be any bytes.
 pub fn cssv<S: Store, I: Source, O: Sink, E: Sink>(
     alloc: Global,
@@ -33,31 +35,41 @@ pub fn cssv<S: Store, I: Source, O: Sink, E: Sink>(
         IfSome (S.content store.old) (λ files. HasCleanProgram files file) }
 
     // Where no fault and no want of memory came between, the status and the texts on both sinks are the command's answer.
-    ensures answered { IsSettled result → Answered (S.content store.old) (command_of (words_of words.now)) result
+    ensures answered { IsSettled result → Answered (S.content store.old) (command_of (I.content input.old) (words_of words.now)) result
         (O.content out.old) (O.content out.new) (E.content errs.old) (E.content errs.new) (E.faults errs.old) (E.faults errs.new) }
 
+    // A run that was begun and ended or was stopped: its output and the line of its end are on the two sinks.
+    ensures ended { IsRun (command_of (I.content input.old) (words_of words.now)) → IsEnding result →
+        RunAnswered (S.content store.old) (command_of (I.content input.old) (words_of words.now)) result
+        (O.content out.old) (O.content out.new) (E.content errs.old) (E.content errs.new) }
+
     // An answer of the command is given, but for faults and want of memory.
-    ensures exactly { IfSome (S.content store.old) (λ files. (answer : Answer) →
-        Answers (Some files) (command_of (words_of words.now)) answer → Becomes answer result (O.content out.old) (O.content out.new)) }
-    ensures usage { command_of (words_of words.now) ≡ Unknown → (result ≡ 2) ⊎ (result ≡ 7) }
-    ensures usage_only { result ≡ 2 → command_of (words_of words.now) ≡ Unknown }
+    ensures exactly { IsTold (command_of (I.content input.old) (words_of words.now)) → IfSome (S.content store.old) (λ files. (answer : Answer) →
+        Answers (Some files) (command_of (I.content input.old) (words_of words.now)) answer → Becomes answer result (O.content out.old) (O.content out.new)) }
+    ensures usage { command_of (I.content input.old) (words_of words.now) ≡ Unknown → (result ≡ 2) ⊎ (result ≡ 7) }
+    ensures usage_only { result ≡ 2 → IsUsage (S.content store.old) (command_of (I.content input.old) (words_of words.now)) }
 
     // The statuses of faults come only where a device counted one in this call.
-    ensures status { result ≤ 7 }
+    ensures status { result ≤ 8 }
+    ensures stopped { result ≡ 8 → IsRun (command_of (I.content input.old) (words_of words.now)) }
     ensures read_fault { result ≡ 5 →
-        LoadFailed (command_of (words_of words.now)) (S.reading_faults store.old) (S.reading_faults store.new) }
-    ensures write_fault { result ≡ 6 → Rose (O.faults out.old) (O.faults out.new) }
+        LoadFailed (command_of (I.content input.old) (words_of words.now)) (S.reading_faults store.old) (S.reading_faults store.new)
+        ⊎ RunFailed (command_of (I.content input.old) (words_of words.now)) (I.faults input.old) (I.faults input.new) }
+    ensures write_fault { result ≡ 6 → Rose (O.faults out.old) (O.faults out.new)
+        ⊎ RunFailed (command_of (I.content input.old) (words_of words.now)) (E.faults errs.old) (E.faults errs.new) }
 
     // What the devices hold afterwards.
     ensures unchanged { S.content store.new ≡ S.content store.old }
-    ensures out { PrintsBy (command_of (words_of words.now)) result (O.content out.old) (O.content out.new) }
-    ensures errs { RefusesBy (command_of (words_of words.now)) result (E.content errs.old) (E.content errs.new)
+    ensures out { PrintsBy (command_of (I.content input.old) (words_of words.now)) result (O.content out.old) (O.content out.new) }
+    ensures errs { RefusesBy (command_of (I.content input.old) (words_of words.now)) result (E.content errs.old) (E.content errs.new)
         (E.faults errs.old) (E.faults errs.new) }
 {
-    let _ = input;
     match request_of(words) {
         Request::Check { file, cert } => check(alloc, file, cert, store, out, errs),
         Request::Core { file } => print_command(alloc, file, store, out, errs),
+        Request::Run { file, steps, args } => {
+            run(alloc, file, steps, args, store, input, out, errs)
+        }
         Request::Unknown => report(alloc, errs, &[], Fault::Usage),
     }
 }
@@ -77,22 +89,23 @@ pub fn serve_words<S: Store>(
 
     // Where no load failed and memory sufficed, what is served is the command's answer.
     ensures answered { IfOk result (λ served. IsSettled served.status →
-        Answers (S.content store.old) (command_of (words_of words.now)) served) }
+        Answers (S.content store.old) (command_of (Some input.now) (words_of words.now)) served) }
 
     // An answer of the command is served, but for faults of reading and want of memory.
     ensures exactly { IfOk result (λ served. IfSome (S.content store.old) (λ files. (answer : Answer) →
-        Answers (Some files) (command_of (words_of words.now)) answer → (served ≡ answer) ⊎ ((served.status ≡ 5) ⊎ (served.status ≡ 7)))) }
-    ensures usage { IfOk result (λ served. command_of (words_of words.now) ≡ Unknown → (served.status ≡ 2) ⊎ (served.status ≡ 7)) }
-    ensures usage_only { IfOk result (λ served. served.status ≡ 2 → command_of (words_of words.now) ≡ Unknown) }
+        Answers (Some files) (command_of (Some input.now) (words_of words.now)) answer → (served ≡ answer) ⊎ ((served.status ≡ 5) ⊎ (served.status ≡ 7)))) }
+    ensures usage { IfOk result (λ served. command_of (Some input.now) (words_of words.now) ≡ Unknown → (served.status ≡ 2) ⊎ (served.status ≡ 7)) }
+    ensures usage_only { IfOk result (λ served. served.status ≡ 2 → IsUsage (S.content store.old) (command_of (Some input.now) (words_of words.now))) }
 
-    ensures status { IfOk result (λ served. served.status ≤ 7) }
+    ensures status { IfOk result (λ served. served.status ≤ 8) }
+    ensures stopped { IfOk result (λ served. served.status ≡ 8 → IsRun (command_of (Some input.now) (words_of words.now))) }
     ensures read_fault { IfOk result (λ served. served.status ≡ 5 →
-        LoadFailed (command_of (words_of words.now)) (S.reading_faults store.old) (S.reading_faults store.new)) }
+        LoadFailed (command_of (Some input.now) (words_of words.now)) (S.reading_faults store.old) (S.reading_faults store.new)) }
     ensures no_write_fault { IfOk result (λ served. served.status ≢ 6) }
 
     ensures unchanged { S.content store.new ≡ S.content store.old }
-    ensures out { IfOk result (λ served. PrintsBy (command_of (words_of words.now)) served.status (Some []) (Some served.out)) }
-    ensures errs { IfOk result (λ served. RefusesBy (command_of (words_of words.now)) served.status (Some []) (Some served.errs) 0 0) }
+    ensures out { IfOk result (λ served. PrintsBy (command_of (Some input.now) (words_of words.now)) served.status (Some []) (Some served.out)) }
+    ensures errs { IfOk result (λ served. RefusesBy (command_of (Some input.now) (words_of words.now)) served.status (Some []) (Some served.errs) 0 0) }
 {
     let mut source = SteadySource::new(Vec::from_slice(alloc, input)?);
     let mut out = SteadySink::new(alloc);

@@ -91,7 +91,7 @@ fn rule_name(rule: ShapeRule) -> &'static [u8]
 }
 
 /// The line of a limit that a program passes: its name and its value.
-fn limit_line(which: LimitName) -> &'static [u8]
+pub(crate) fn limit_line(which: LimitName) -> &'static [u8]
     ensures { result.now ≡ limit_text which }
 {
     match which {

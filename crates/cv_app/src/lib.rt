@@ -3,13 +3,22 @@
 
 mod answer;
 mod app;
+mod args;
 mod check;
 #[cfg(test)]
 mod core_tests;
+mod ended;
 mod fault;
+mod halt;
+mod input;
+mod numbers;
 mod print_command;
 mod program;
+mod reads;
 mod request;
+mod run;
+#[cfg(test)]
+mod run_tests;
 mod served;
 #[cfg(test)]
 mod tests;

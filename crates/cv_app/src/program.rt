@@ -1,6 +1,7 @@
 //! Which program a file stands for.
-ghost use Rattle.std.specs.Prelude.{◌≡◌, ◌≢◌, ◌<◌, ◌^◌, ◌-◌, ℕ, List, length, IfErr, IfSome, Err};
+ghost use Rattle.std.specs.Prelude.{◌≡◌, ◌≢◌, ◌<◌, ◌^◌, ◌-◌, ℕ, List, length, IfOk, IfErr, IfSome, None, Err};
 ghost use Rattle.cv_core.specs.Limits.{first_limit};
+ghost use Rattle.cv_core.specs.WellFormed.{IsSoundProgram};
 ghost use Rattle.cv_io.specs.Counts.{Rose, NoneRose};
 ghost use Rattle.cv_app.specs.Faults.{UnlessHindered};
 ghost use Rattle.cv_app.specs.Programs.{by_limit};
@@ -29,7 +30,9 @@ fn read_text(alloc: Global, bytes: &[u8]) -> Result<Program, Fault>
 
 /// The program, where it passes no limit and is well formed.
 fn tested(alloc: Global, program: Program) -> Result<Program, Fault>
-    ensures formed { (name : List ℕ) → UnlessHindered result (outcome_of name result ≡ by_limit name program (first_limit program)) }
+    ensures tested { (name : List ℕ) → UnlessHindered result (outcome_of name result ≡ by_limit name program (first_limit program)) }
+    ensures within { IfOk result (λ p. first_limit p ≡ None) }
+    ensures formed { IfOk result IsSoundProgram }
     ensures faults { IfErr result IsFileFault }
     ensures no_read_fault { result ≢ Err Fault.Read }
 {
@@ -47,6 +50,8 @@ fn tested(alloc: Global, program: Program) -> Result<Program, Fault>
 fn program_of_bytes(alloc: Global, name: &[u8], bytes: &[u8]) -> Result<Program, Fault>
     requires { length bytes.now < 2 ^ 32 - 1 }
     ensures given { UnlessHindered result (IsGiven name.now bytes.now (outcome_of name.now result)) }
+    ensures within { IfOk result (λ p. first_limit p ≡ None) }
+    ensures formed { IfOk result IsSoundProgram }
     ensures faults { IfErr result IsFileFault }
     ensures no_read_fault { result ≢ Err Fault.Read }
 {
@@ -64,6 +69,8 @@ pub(crate) fn program_of_file<S: Store>(
     file: &[u8],
 ) -> Result<Program, Fault>
     ensures found { IfSome (S.content store.old) (λ files. UnlessHindered result (IsFound files file.now (outcome_of file.now result))) }
+    ensures within { IfOk result (λ p. first_limit p ≡ None) }
+    ensures formed { IfOk result IsSoundProgram }
     ensures faults { IfErr result IsFileFault }
     ensures read_fault { result ≡ Err Fault.Read → Rose (S.reading_faults store.old file.now) (S.reading_faults store.new file.now) }
     ensures unchanged { S.content store.new ≡ S.content store.old }

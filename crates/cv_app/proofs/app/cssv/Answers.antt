@@ -1,7 +1,7 @@
 use Rattle.std.proofs.Common.{ℕ, List, Some, IfSome, refl, inl, inr, lit≤, subst}
 use Rattle.cv_app.specs.declared.served.Served.{Served}
 use Rattle.cv_app.specs.Answers.{Answers}
-use Rattle.cv_app.specs.Commands.{Command, Unknown}
+use Rattle.cv_app.specs.Commands.{Command, Unknown, IsTold}
 use Rattle.cv_app.specs.Served.{refused}
 use Rattle.cv_app.specs.Sinks.{Answered, Becomes, RefusesBy}
 use Rattle.cv_app.specs.Texts.{usage_text}
@@ -9,27 +9,33 @@ use Rattle.cv_app.proofs.Outcomes.{answered_reported, refuses_reported}
 use Rattle.cv_app.proofs.app.cssv.Goals as goal
 
 pub returns-in-Check-clause-exactly : goal.returns-in-Check-clause-exactly
-returns-in-Check-clause-exactly g c =
+returns-in-Check-clause-exactly g c = λ _.
     subst (λ (command : Command). IfSome (g.S.Store.content c.args.store.now) (λ files. (answer : Served) → Answers (Some files) command answer →
     Becomes answer c.check.result (g.O.Sink.content c.args.out.now) (g.O.Sink.content c.check.new.out)))
-    c.in-Check.ensures c.check.ensures.exactly
+    (c.in-Check.ensures (g.I.Source.content c.args.input.now)) c.check.ensures.exactly
 
 pub returns-in-Core-clause-exactly : goal.returns-in-Core-clause-exactly
-returns-in-Core-clause-exactly g c =
+returns-in-Core-clause-exactly g c = λ _.
     subst (λ (command : Command). IfSome (g.S.Store.content c.args.store.now) (λ files. (answer : Served) → Answers (Some files) command answer →
     Becomes answer c.print_command.result (g.O.Sink.content c.args.out.now) (g.O.Sink.content c.print_command.new.out)))
-    c.in-Core.ensures c.print_command.ensures.exactly
+    (c.in-Core.ensures (g.I.Source.content c.args.input.now)) c.print_command.ensures.exactly
+
+pub returns-in-Run-clause-exactly : goal.returns-in-Run-clause-exactly
+returns-in-Run-clause-exactly g c =
+    subst (λ (command : Command). IsTold command → IfSome (g.S.Store.content c.args.store.now) (λ files. (answer : Served) → Answers (Some files) command answer →
+    Becomes answer c.run.result (g.O.Sink.content c.args.out.now) (g.O.Sink.content c.run.new.out)))
+    (c.in-Run.ensures (g.I.Source.content c.args.input.now)) c.run.ensures.exactly
 
 pub returns-in-Unknown-clause-answered : goal.returns-in-Unknown-clause-answered
 returns-in-Unknown-clause-answered g c = λ calm.
     subst (λ (command : Command). Answered (g.S.Store.content c.args.store.now) command c.report.result (g.O.Sink.content c.args.out.now) (g.O.Sink.content c.args.out.now)
-    (g.E.Sink.content c.args.errs.now) (g.E.Sink.content c.report.new.errs) (g.E.Sink.faults c.args.errs.now) (g.E.Sink.faults c.report.new.errs)) c.in-Unknown.ensures
+    (g.E.Sink.content c.args.errs.now) (g.E.Sink.content c.report.new.errs) (g.E.Sink.faults c.args.errs.now) (g.E.Sink.faults c.report.new.errs)) (c.in-Unknown.ensures (g.I.Source.content c.args.input.now))
     (answered_reported (g.S.Store.content c.args.store.now) Unknown (refused 2 usage_text) c.report.result (g.O.Sink.content c.args.out.now) (g.O.Sink.content c.args.out.now)
     (g.E.Sink.content c.args.errs.now) (g.E.Sink.content c.report.new.errs) (g.E.Sink.faults c.args.errs.now) (g.E.Sink.faults c.report.new.errs) refl refl refl c.report.ensures calm)
 
 pub returns-in-Unknown-clause-errs : goal.returns-in-Unknown-clause-errs
 returns-in-Unknown-clause-errs g c =
     subst (λ (command : Command). RefusesBy command c.report.result (g.E.Sink.content c.args.errs.now) (g.E.Sink.content c.report.new.errs)
-    (g.E.Sink.faults c.args.errs.now) (g.E.Sink.faults c.report.new.errs)) c.in-Unknown.ensures
+    (g.E.Sink.faults c.args.errs.now) (g.E.Sink.faults c.report.new.errs)) (c.in-Unknown.ensures (g.I.Source.content c.args.input.now))
     (refuses_reported Unknown (refused 2 usage_text) c.report.result (g.E.Sink.content c.args.errs.now) (g.E.Sink.content c.report.new.errs)
-    (g.E.Sink.faults c.args.errs.now) (g.E.Sink.faults c.report.new.errs) (lit≤ tt) (inl (refl, refl)) (inr (refl, refl)) c.report.ensures)
+    (g.E.Sink.faults c.args.errs.now) (g.E.Sink.faults c.report.new.errs) (lit≤ tt) (lit≤ tt) (inl (refl, refl)) (inr (refl, refl)) c.report.ensures)

@@ -16,7 +16,7 @@ returns-in-Ok-true-clause-exactly g c =
 
 pub returns-in-Ok-true-clause-errs : goal.returns-in-Ok-true-clause-errs
 returns-in-Ok-true-clause-errs g c =
-    refuses_printed (Check c.args.file.now c.args.cert.now) (answer_of c.args.file.now (Ok true)) c.print.result (g.O.Sink.content c.args.out.now) (g.O.Sink.content c.print.new.out) (g.O.Sink.faults c.args.out.now) (g.O.Sink.faults c.print.new.out) (g.E.Sink.content c.args.errs.now) (g.E.Sink.content c.print.new.errs) (g.E.Sink.faults c.args.errs.now) (g.E.Sink.faults c.print.new.errs) (lit≤ tt) (inr (inr (inr (inr (inl (refl, refl)))))) (inr (inr (inr (inr (inr (refl, refl)))))) c.print.ensures
+    refuses_printed (Check c.args.file.now c.args.cert.now) (answer_of c.args.file.now (Ok true)) c.print.result (g.O.Sink.content c.args.out.now) (g.O.Sink.content c.print.new.out) (g.O.Sink.faults c.args.out.now) (g.O.Sink.faults c.print.new.out) (g.E.Sink.content c.args.errs.now) (g.E.Sink.content c.print.new.errs) (g.E.Sink.faults c.args.errs.now) (g.E.Sink.faults c.print.new.errs) (λ r. r) (lit≤ tt) (inr (inr (inr (inr (inl (refl, refl)))))) (inr (inr (inr (inr (inr (refl, refl)))))) c.print.ensures
 
 pub returns-in-Ok-false-clause-answered : goal.returns-in-Ok-false-clause-answered
 returns-in-Ok-false-clause-answered g c = λ calm.
@@ -33,7 +33,7 @@ returns-in-Ok-false-clause-out g c =
 
 pub returns-in-Ok-false-clause-errs : goal.returns-in-Ok-false-clause-errs
 returns-in-Ok-false-clause-errs g c =
-    refuses_printed (Check c.args.file.now c.args.cert.now) (answer_of c.args.file.now (Ok false)) c.print-in-Ok-false.result (g.O.Sink.content c.args.out.now) (g.O.Sink.content c.print-in-Ok-false.new.out) (g.O.Sink.faults c.args.out.now) (g.O.Sink.faults c.print-in-Ok-false.new.out) (g.E.Sink.content c.args.errs.now) (g.E.Sink.content c.print-in-Ok-false.new.errs) (g.E.Sink.faults c.args.errs.now) (g.E.Sink.faults c.print-in-Ok-false.new.errs) (lit≤ tt) (inr (inr (inr (inr (inl (refl, refl)))))) (inr (inr (inr (inr (inr (refl, refl)))))) c.print-in-Ok-false.ensures
+    refuses_printed (Check c.args.file.now c.args.cert.now) (answer_of c.args.file.now (Ok false)) c.print-in-Ok-false.result (g.O.Sink.content c.args.out.now) (g.O.Sink.content c.print-in-Ok-false.new.out) (g.O.Sink.faults c.args.out.now) (g.O.Sink.faults c.print-in-Ok-false.new.out) (g.E.Sink.content c.args.errs.now) (g.E.Sink.content c.print-in-Ok-false.new.errs) (g.E.Sink.faults c.args.errs.now) (g.E.Sink.faults c.print-in-Ok-false.new.errs) (λ r. r) (lit≤ tt) (inr (inr (inr (inr (inl (refl, refl)))))) (inr (inr (inr (inr (inr (refl, refl)))))) c.print-in-Ok-false.ensures
 
 pub returns-in-Err-clause-answered : goal.returns-in-Err-clause-answered
 returns-in-Err-clause-answered g c = λ calm.
@@ -46,4 +46,4 @@ returns-in-Err-clause-exactly g c =
 pub returns-in-Err-clause-errs : goal.returns-in-Err-clause-errs
 returns-in-Err-clause-errs g c =
     let facts = refusal c.args.file.now c.args.cert.now c.in-Err.fault c.in-Err.ensures.faults in
-    refuses_reported (Check c.args.file.now c.args.cert.now) (refusal_of c.args.file.now c.in-Err.fault) c.report.result (g.E.Sink.content c.args.errs.now) (g.E.Sink.content c.report.new.errs) (g.E.Sink.faults c.args.errs.now) (g.E.Sink.faults c.report.new.errs) facts.high facts.line facts.memory c.report.ensures
+    refuses_reported (Check c.args.file.now c.args.cert.now) (refusal_of c.args.file.now c.in-Err.fault) c.report.result (g.E.Sink.content c.args.errs.now) (g.E.Sink.content c.report.new.errs) (g.E.Sink.faults c.args.errs.now) (g.E.Sink.faults c.report.new.errs) facts.high facts.low facts.line facts.memory c.report.ensures

@@ -17,7 +17,7 @@ returns-in-Ok-clause-exactly g c =
 
 pub returns-in-Ok-clause-errs : goal.returns-in-Ok-clause-errs
 returns-in-Ok-clause-errs g c =
-    refuses_printed (Core c.args.file.now) (printed 0 c.in-Ok.text.items) c.print.result (g.O.Sink.content c.args.out.now) (g.O.Sink.content c.print.new.out) (g.O.Sink.faults c.args.out.now) (g.O.Sink.faults c.print.new.out) (g.E.Sink.content c.args.errs.now) (g.E.Sink.content c.print.new.errs) (g.E.Sink.faults c.args.errs.now) (g.E.Sink.faults c.print.new.errs) (lit≤ tt) (inr (inr (inl (refl, refl)))) (inr (inr (inr (refl, refl)))) (rw c.deref.ensures.value at c.print.ensures)
+    refuses_printed (Core c.args.file.now) (printed 0 c.in-Ok.text.items) c.print.result (g.O.Sink.content c.args.out.now) (g.O.Sink.content c.print.new.out) (g.O.Sink.faults c.args.out.now) (g.O.Sink.faults c.print.new.out) (g.E.Sink.content c.args.errs.now) (g.E.Sink.content c.print.new.errs) (g.E.Sink.faults c.args.errs.now) (g.E.Sink.faults c.print.new.errs) (λ r. r) (lit≤ tt) (inr (inr (inl (refl, refl)))) (inr (inr (inr (refl, refl)))) (rw c.deref.ensures.value at c.print.ensures)
 
 pub returns-in-Err-clause-exactly : goal.returns-in-Err-clause-exactly
 returns-in-Err-clause-exactly g c =
@@ -26,4 +26,4 @@ returns-in-Err-clause-exactly g c =
 pub returns-in-Err-clause-errs : goal.returns-in-Err-clause-errs
 returns-in-Err-clause-errs g c =
     let facts = core_refusal c.args.file.now c.in-Err.fault c.in-Err.ensures.faults in
-    refuses_reported (Core c.args.file.now) (refusal_of c.args.file.now c.in-Err.fault) c.report.result (g.E.Sink.content c.args.errs.now) (g.E.Sink.content c.report.new.errs) (g.E.Sink.faults c.args.errs.now) (g.E.Sink.faults c.report.new.errs) facts.high facts.line facts.memory c.report.ensures
+    refuses_reported (Core c.args.file.now) (refusal_of c.args.file.now c.in-Err.fault) c.report.result (g.E.Sink.content c.args.errs.now) (g.E.Sink.content c.report.new.errs) (g.E.Sink.faults c.args.errs.now) (g.E.Sink.faults c.report.new.errs) facts.high facts.low facts.line facts.memory c.report.ensures

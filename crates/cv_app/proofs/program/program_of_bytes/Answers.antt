@@ -9,4 +9,4 @@ returns-in_err-program-clause-given c =
     rw (left.1, left.2) (given_refused c.args.name.now c.args.bytes.now c.in_err-program.field-0.0 (search rules) c.in_err-program.ensures.faults c.in_err-program.ensures.read)
 
 pub returns-clause-given : goal.returns-clause-given
-returns-clause-given c = given_formed c.args.name.now c.args.bytes.now c.in_ok-program.program c.tested.result (search rules) c.in_ok-program.ensures.read (c.tested.ensures.formed c.args.name.now)
+returns-clause-given c = given_formed c.args.name.now c.args.bytes.now c.in_ok-program.program c.tested.result (search rules) c.in_ok-program.ensures.read (c.tested.ensures.tested c.args.name.now)
