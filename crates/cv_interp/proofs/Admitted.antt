@@ -10,10 +10,9 @@ use Rattle.cv_core.specs.declared.program.Proc.{Proc}
 use Rattle.cv_core.specs.declared.program.ProcBody.{ProcBody}
 use Rattle.cv_core.specs.declared.program.Local.{Local}
 use Rattle.cv_core.specs.declared.program.Atom.{Atom}
-use Rattle.cv_meaning.specs.declared.memory.Permit.{Permit}
 use Rattle.cv_meaning.specs.declared.memory.Value.TheVariants as value
 use Rattle.cv_meaning.specs.declared.memory.World.{World}
-use Rattle.cv_meaning.specs.Call.{Turn, Errs, Goes, Enters, answer_in, as_turn, bound, call_turn, entry_turn, extern_answer, first_alternative, give, may_enter, permitted, scene_of}
+use Rattle.cv_meaning.specs.Call.{Turn, Errs, Goes, Enters, answer_in, as_turn, bound, call_turn, entry_turn, first_alternative, give, may_enter, permitted, scene_of}
 use Rattle.cv_meaning.specs.Checked.{Checked, unless}
 use Rattle.cv_meaning.specs.Contract.{Env, Scene}
 use Rattle.cv_meaning.specs.Memory.{Memory, is_no_literal, may_change}

@@ -1,10 +1,10 @@
 -- A machine at the start of main: it is sound, and ends where the run of main does.
-use Rattle.std.proofs.Common.{◌≡◌, refl, sym, ap, subst, ◌∙◌, ℕ, ◌+◌, ◌<◌, ◌≤◌, ◌^◌, Bool, true, false, List, [], ◌∷◌, length, map, Option, Some, None, arith}
+use Rattle.std.proofs.Common.{◌≡◌, refl, sym, ap, subst, ◌∙◌, ℕ, ◌+◌, ◌≤◌, ◌^◌, Bool, true, false, List, [], ◌∷◌, length, map, Option, Some, None, arith}
 use Rattle.std.specs.Prelude.{All, IsSome, if◌then◌else◌, slice_get, codes}
 use Rattle.std.specs.Option.{option_and_then}
 use Rattle.cv_core.specs.Grammar.{IsBody, IsLocal, IsProc, IsWritten}
 use Rattle.cv_core.specs.Limits.{first_limit}
-use Rattle.cv_core.specs.Names.{Name, local_site, locals_of, place_of}
+use Rattle.cv_core.specs.Names.{local_site, locals_of, place_of}
 use Rattle.cv_core.specs.WellFormed.{IsSoundProgram}
 use Rattle.cv_core.specs.declared.faults.ErrKind.TheVariants as err
 use Rattle.cv_core.specs.declared.program.Program.{Program}
@@ -15,9 +15,8 @@ use Rattle.cv_meaning.specs.declared.memory.Value.{Value}
 use Rattle.cv_meaning.specs.declared.memory.World.{World}
 use Rattle.cv_meaning.specs.Call.{entered, may_enter}
 use Rattle.cv_meaning.specs.Contract.{Env}
-use Rattle.cv_meaning.specs.Look.{look}
 use Rattle.cv_meaning.specs.Memory.{Memory, cell_at}
-use Rattle.cv_meaning.specs.Run.{End, Error, begin, begin_at, frame_of, run, run_main}
+use Rattle.cv_meaning.specs.Run.{Error, begin, begin_at, frame_of, run, run_main}
 use Rattle.cv_meaning.specs.State.{Frame, State, bind, make_locals, no_vars}
 use Rattle.cv_interp.specs.declared.machine.Core.{Core}
 use Rattle.cv_interp.specs.declared.machine.Ended.{Ended}
@@ -25,7 +24,7 @@ use Rattle.cv_interp.specs.declared.machine.Ended.TheVariants as ended
 use Rattle.cv_interp.specs.declared.store.Waiting.{Waiting}
 use Rattle.cv_interp.specs.Entered.{IsRoom}
 use Rattle.cv_interp.specs.Good.{IsGood, IsWaiting}
-use Rattle.cv_interp.specs.Machine.{Outcome, end, end_from, resumed, seen}
+use Rattle.cv_interp.specs.Machine.{end, end_from, resumed, seen}
 use Rattle.cv_interp.specs.Seen.{frame, state}
 use Rattle.cv_interp.specs.Slots.{env_of}
 use Rattle.cv_interp.specs.Sound.{IsFit, IsState}

@@ -1,5 +1,5 @@
 -- The first memory and the first variables are sound.
-use Rattle.std.proofs.Common.{◌≡◌, refl, sym, ap, subst, ◌∙◌, ℕ, zero, suc, ◌+◌, ◌<◌, ◌≤◌, ◌^◌, Bool, true, false, List, [], ◌∷◌, ◌++◌, length, replicate, Option, Some, None, arith, pos}
+use Rattle.std.proofs.Common.{◌≡◌, refl, sym, subst, ℕ, zero, suc, ◌+◌, ◌<◌, ◌≤◌, ◌^◌, true, List, [], ◌∷◌, ◌++◌, length, replicate, Option, Some, None, arith, pos}
 use Rattle.std.specs.Prelude.{All, slice_get, IsSome}
 use Rattle.std.specs.Str.{bytes_eq}
 use Rattle.std.proofs.lemmas.Bool.{ltb-false}
@@ -20,16 +20,14 @@ use Rattle.cv_core.specs.declared.program.VarKind.TheVariants as kind
 use Rattle.cv_meaning.specs.declared.ends.Arg.{Arg}
 use Rattle.cv_meaning.specs.declared.ends.Arg.TheVariants as arg
 use Rattle.cv_meaning.specs.declared.memory.Object.{Object}
-use Rattle.cv_meaning.specs.declared.memory.Body.{Body}
 use Rattle.cv_meaning.specs.declared.memory.Body.TheVariants.{Buffer}
 use Rattle.cv_meaning.specs.declared.memory.Ptr.TheVariants.{Null, At}
-use Rattle.cv_meaning.specs.declared.memory.Value.{Value}
 use Rattle.cv_meaning.specs.declared.memory.Value.TheVariants as value
 use Rattle.cv_meaning.specs.Clean.{literal_objects}
 use Rattle.cv_meaning.specs.Memory.{Memory, cell_at, cell_held, cell_in}
 use Rattle.cv_meaning.specs.State.{bind, no_vars}
 use Rattle.cv_interp.proofs.Arriving.{Holds, either_holds}
-use Rattle.cv_interp.proofs.Limited.{all_at, any_at, inside, none_at}
+use Rattle.cv_interp.proofs.Limited.{all_at, any_at, none_at}
 use Rattle.cv_interp.proofs.Memories.{IsObject, cell_of_object, some_cell}
 use Rattle.cv_interp.proofs.Stepped.{first_true, second_true}
 use Rattle.cv_interp.specs.Sound.{HasGlobals, IsFit, IsMemory, Keeps, is_cell_global, is_cell_kind}

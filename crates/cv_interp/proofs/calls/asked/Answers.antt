@@ -1,13 +1,11 @@
-use Rattle.std.proofs.Common.{◌≡◌, sym, ap, subst, ◌∙◌, suc, Some, ℤ, FitsSigned, w32, w64, rules}
-use Rattle.std.specs.Prelude.{slice_get}
+use Rattle.std.proofs.Common.{sym, ap, subst, ◌∙◌, suc, Some, ℤ, FitsSigned, w32, w64, rules}
 use Rattle.std.proofs.lemmas.Int.{to_z-of_z}
 use Rattle.cv_meaning.specs.declared.memory.Value.TheVariants as value
 use Rattle.cv_meaning.specs.declared.memory.World.{World}
-use Rattle.cv_meaning.specs.Call.{Goes, answer_in, first_alternative, give}
+use Rattle.cv_meaning.specs.Call.{Goes, give}
 use Rattle.cv_meaning.specs.State.{State}
-use Rattle.cv_interp.specs.Called.{bound_by}
 use Rattle.cv_interp.specs.Entered.{arrived}
-use Rattle.cv_interp.specs.Seen.{frame, left, state}
+use Rattle.cv_interp.specs.Seen.{frame, state}
 use Rattle.cv_interp.proofs.Admitted.{asks}
 use Rattle.cv_interp.proofs.calls.asked.Goals as goal
 

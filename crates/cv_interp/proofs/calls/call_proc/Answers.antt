@@ -1,8 +1,7 @@
-use Rattle.std.proofs.Common.{◌≡◌, sym, ap, ◌∙◌, List, ℕ, Ok, Err, refl}
+use Rattle.std.proofs.Common.{sym, ap, ◌∙◌, List, ℕ, Ok, refl}
 use Rattle.std.proofs.lemmas.Result.{IfOk-weaker}
-use Rattle.cv_meaning.specs.Call.{call_turn, entered, entry_turn, may_enter, permitted}
+use Rattle.cv_meaning.specs.Call.{entered, permitted}
 use Rattle.cv_meaning.specs.State.{Frame}
-use Rattle.cv_interp.specs.Called.{IsCalled}
 use Rattle.cv_interp.specs.Entered.{arrived}
 use Rattle.cv_interp.specs.Seen.{frame, state}
 use Rattle.cv_interp.proofs.Admitted.{called_as, calls_barred, calls_on, calls_refused}

@@ -1,4 +1,4 @@
-use Rattle.std.proofs.Common.{◌≡◌, refl, sym, ap, subst, ◌∙◌, ℕ, ◌≤◌, ◌^◌, List, [], ◌++◌, length}
+use Rattle.std.proofs.Common.{◌≡◌, refl, ap, subst, ◌∙◌, ℕ, ◌≤◌, ◌^◌, List, [], ◌++◌, length}
 use Rattle.cv_core.specs.Names.{local_site, locals_of}
 use Rattle.cv_core.specs.declared.program.Program.{Program}
 use Rattle.cv_core.specs.declared.program.Proc.{Proc}
@@ -7,7 +7,7 @@ use Rattle.cv_meaning.specs.declared.memory.Value.{Value}
 use Rattle.cv_meaning.specs.Call.{entered, may_enter}
 use Rattle.cv_meaning.specs.Look.{look}
 use Rattle.cv_meaning.specs.Memory.{Memory}
-use Rattle.cv_meaning.specs.State.{Frame, State, make_locals}
+use Rattle.cv_meaning.specs.State.{make_locals}
 use Rattle.cv_interp.specs.declared.machine.Core.{Core}
 use Rattle.cv_interp.specs.Entered.{arrived}
 use Rattle.cv_interp.specs.Seen.{state_in}
