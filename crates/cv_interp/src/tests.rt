@@ -284,32 +284,77 @@ fn machine<'a>(
     Machine::start(alloc, p, args, world)
 }
 
+/// How the run of a program ends within so many steps.
+fn end_within(
+    alloc: Global,
+    p: &Program,
+    args: &[Arg],
+    world: World,
+    steps: u64,
+) -> Result<RunEnd, StartError>
+    requires { All HasFewBytes args.now }
+{
+    let mut m = machine(alloc, p, args, world)?;
+    let end = m.run(steps)?;
+    Ok(end)
+}
+
+/// Whether the next two steps both give this.
+fn gives(m: &mut Machine, turn: Turn) -> Result<bool, AllocError> {
+    let first = m.step()?;
+    let second = m.step()?;
+    Ok(first == turn && second == turn)
+}
+
+/// Whether a run of so many steps, and one of more, both end so.
+fn ends_and_stays(m: &mut Machine, steps: u64, end: RunEnd) -> Result<bool, AllocError> {
+    let first = m.run(steps)?;
+    let second = m.run(9)?;
+    Ok(first == end && second == end)
+}
+
 // ---- the tests
+
+/// `return 7;`
+fn seven(alloc: Global) -> Result<Program, AllocError> {
+    let mut stmts = none(alloc);
+    then(&mut stmts, 10, return_number(7))?;
+    main_alone(alloc, none(alloc), none(alloc), stmts)
+}
 
 #[test]
 fn returns_and_stays(rt: HostRuntime) -> Result<(), Fail> {
     let alloc = rt.alloc();
-    let mut stmts = none(alloc);
-    then(&mut stmts, 10, return_number(7))?;
-    let p = main_alone(alloc, none(alloc), none(alloc), stmts)?;
+    let p = seven(alloc)?;
     let mut m = machine(alloc, &p, &[], quiet(alloc))?;
-    assert_eq!(rt; m.run(0)?, RunEnd::Stopped);
-    assert_eq!(rt; m.step()?, Turn::Returned(7));
-    assert_eq!(rt; m.step()?, Turn::Returned(7));
-    assert_eq!(rt; m.run(0)?, RunEnd::Returned(7));
+    assert!(rt; gives(&mut m, Turn::Returned(7))?);
     Ok(())
 }
 
 #[test]
-fn stops(rt: HostRuntime) -> Result<(), Fail> {
+fn stops_before_the_first_step(rt: HostRuntime) -> Result<(), Fail> {
     let alloc = rt.alloc();
+    let p = seven(alloc)?;
+    assert_eq!(rt;
+        end_within(alloc, &p, &[], quiet(alloc), 0)?,
+        RunEnd::Stopped
+    );
+    Ok(())
+}
+
+/// `goto` itself.
+fn endless(alloc: Global) -> Result<Program, AllocError> {
     let mut stmts = none(alloc);
     then(&mut stmts, 10, Form::Goto(0))?;
-    let p = main_alone(alloc, none(alloc), none(alloc), stmts)?;
+    main_alone(alloc, none(alloc), none(alloc), stmts)
+}
+
+#[test]
+fn goes_on(rt: HostRuntime) -> Result<(), Fail> {
+    let alloc = rt.alloc();
+    let p = endless(alloc)?;
     let mut m = machine(alloc, &p, &[], quiet(alloc))?;
-    assert_eq!(rt; m.run(1000)?, RunEnd::Stopped);
-    assert_eq!(rt; m.run(1000)?, RunEnd::Stopped);
-    assert_eq!(rt; m.step()?, Turn::On);
+    assert!(rt; ends_and_stays(&mut m, 1000, RunEnd::Stopped)?);
     Ok(())
 }
 
@@ -354,9 +399,7 @@ fn errs_and_stays(rt: HostRuntime) -> Result<(), Fail> {
         proc: 0,
         line: 12,
     };
-    assert_eq!(rt; m.run(2)?, RunEnd::Stopped);
-    assert_eq!(rt; m.run(1)?, end);
-    assert_eq!(rt; m.run(9)?, end);
+    assert!(rt; ends_and_stays(&mut m, 3, end)?);
     assert_eq!(rt; m.output(), [65u8].as_slice());
     Ok(())
 }
@@ -381,6 +424,17 @@ fn one_byte(alloc: Global) -> Result<Program, AllocError> {
     main_alone(alloc, none(alloc), locals, stmts)
 }
 
+#[test]
+fn input_that_has_ended(rt: HostRuntime) -> Result<(), Fail> {
+    let alloc = rt.alloc();
+    let p = one_byte(alloc)?;
+    assert_eq!(rt;
+        end_within(alloc, &p, &[], quiet(alloc), 9)?,
+        RunEnd::Returned(-1)
+    );
+    Ok(())
+}
+
 /// Stores into a buffer of one byte, which it makes.
 fn one_store(alloc: Global) -> Result<Program, AllocError> {
     let mut locals = none(alloc);
@@ -403,31 +457,33 @@ fn one_store(alloc: Global) -> Result<Program, AllocError> {
 }
 
 #[test]
-fn input_and_memory(rt: HostRuntime) -> Result<(), Fail> {
+fn an_allocation(rt: HostRuntime) -> Result<(), Fail> {
     let alloc = rt.alloc();
-    let p = one_byte(alloc)?;
-    let mut m = machine(alloc, &p, &[], quiet(alloc))?;
-    assert_eq!(rt; m.run(9)?, RunEnd::Returned(-1));
     let p = one_store(alloc)?;
-    let mut m = machine(alloc, &p, &[], quiet(alloc))?;
-    assert_eq!(rt; m.run(9)?, RunEnd::Returned(3));
-    let mut world = quiet(alloc);
-    world.allocations.push(false)?;
-    let mut m = machine(alloc, &p, &[], world)?;
     assert_eq!(rt;
-        m.run(9)?,
-        RunEnd::Error {
-            kind: ErrKind::Null,
-            proc: 0,
-            line: 11
-        }
+        end_within(alloc, &p, &[], quiet(alloc), 9)?,
+        RunEnd::Returned(3)
     );
     Ok(())
 }
 
 #[test]
-fn calls_without_end(rt: HostRuntime) -> Result<(), Fail> {
+fn no_allocation(rt: HostRuntime) -> Result<(), Fail> {
     let alloc = rt.alloc();
+    let p = one_store(alloc)?;
+    let mut world = quiet(alloc);
+    world.allocations.push(false)?;
+    let end = RunEnd::Error {
+        kind: ErrKind::Null,
+        proc: 0,
+        line: 11,
+    };
+    assert_eq!(rt; end_within(alloc, &p, &[], world, 9)?, end);
+    Ok(())
+}
+
+/// f calls itself.
+fn calls_itself(alloc: Global) -> Result<Program, AllocError> {
     let mut stmts = none(alloc);
     then(
         &mut stmts,
@@ -435,9 +491,17 @@ fn calls_without_end(rt: HostRuntime) -> Result<(), Fail> {
         call(alloc, None, b"f".as_slice(), none(alloc))?,
     )?;
     then(&mut stmts, 11, Form::Return(None))?;
-    let p = main_after(alloc, ResultKind::Void, none(alloc), stmts)?;
-    let mut m = machine(alloc, &p, &[], quiet(alloc))?;
-    assert_eq!(rt; m.run(50)?, RunEnd::Stopped);
+    main_after(alloc, ResultKind::Void, none(alloc), stmts)
+}
+
+#[test]
+fn calls_without_end(rt: HostRuntime) -> Result<(), Fail> {
+    let alloc = rt.alloc();
+    let p = calls_itself(alloc)?;
+    assert_eq!(rt;
+        end_within(alloc, &p, &[], quiet(alloc), 50)?,
+        RunEnd::Stopped
+    );
     Ok(())
 }
 
@@ -465,15 +529,12 @@ fn own_buffer(alloc: Global) -> Result<Program, AllocError> {
 fn returns_a_dead_object(rt: HostRuntime) -> Result<(), Fail> {
     let alloc = rt.alloc();
     let p = own_buffer(alloc)?;
-    let mut m = machine(alloc, &p, &[], quiet(alloc))?;
-    assert_eq!(rt;
-        m.run(50)?,
-        RunEnd::Error {
-            kind: ErrKind::Dead,
-            proc: 0,
-            line: 11
-        }
-    );
+    let end = RunEnd::Error {
+        kind: ErrKind::Dead,
+        proc: 0,
+        line: 11,
+    };
+    assert_eq!(rt; end_within(alloc, &p, &[], quiet(alloc), 50)?, end);
     Ok(())
 }
 
@@ -503,15 +564,31 @@ fn first_byte(alloc: Global) -> Result<Program, AllocError> {
 }
 
 #[test]
-fn arguments(rt: HostRuntime) -> Result<(), Fail> {
+fn arguments_that_are_not_mains(rt: HostRuntime) -> Result<(), Fail> {
     let alloc = rt.alloc();
     let p = first_byte(alloc)?;
-    let none_given = machine(alloc, &p, &[], quiet(alloc));
-    assert!(rt; matches!(none_given, Err(StartError::Args)));
-    let other = machine(alloc, &p, &[Arg::Int(0)], quiet(alloc));
-    assert!(rt; matches!(other, Err(StartError::Args)));
+    let end = end_within(alloc, &p, &[Arg::Int(0)], quiet(alloc), 2);
+    assert_eq!(rt; end, Err(StartError::Args));
+    Ok(())
+}
+
+#[test]
+fn no_argument(rt: HostRuntime) -> Result<(), Fail> {
+    let alloc = rt.alloc();
+    let p = first_byte(alloc)?;
+    let end = end_within(alloc, &p, &[], quiet(alloc), 2);
+    assert_eq!(rt; end, Err(StartError::Args));
+    Ok(())
+}
+
+#[test]
+fn an_empty_text(rt: HostRuntime) -> Result<(), Fail> {
+    let alloc = rt.alloc();
+    let p = first_byte(alloc)?;
     let text = Arg::Text(none(alloc));
-    let mut m = machine(alloc, &p, &[text], quiet(alloc))?;
-    assert_eq!(rt; m.run(2)?, RunEnd::Returned(0));
+    assert_eq!(rt;
+        end_within(alloc, &p, &[text], quiet(alloc), 2)?,
+        RunEnd::Returned(0)
+    );
     Ok(())
 }
