@@ -7,3 +7,4 @@ pub mod ServedLemmas
 pub mod RunLemmas
 pub mod NumberLemmas
 pub mod InputLemmas
+pub mod WordLemmas

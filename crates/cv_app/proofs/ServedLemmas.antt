@@ -1,5 +1,5 @@
 -- What is served is the one answer of a command.
-use Rattle.std.proofs.Common.{Bool, true, false, nat_eq, if◌then◌else◌, codes, ◌≡◌, ◌≢◌, ℕ, ◌⊎◌, List, [], ◌∷◌, Option, None, Some, IfSome, refl, sym, ◌∙◌, ap, rules, arith, inl, inr}
+use Rattle.std.proofs.Common.{Bool, true, false, nat_eq, if◌then◌else◌, codes, ◌≡◌, ◌≢◌, ℕ, ◌⊎◌, List, [], ◌∷◌, Option, None, Some, IfSome, refl, sym, ◌∙◌, ap, subst, rules, arith, inl, inr}
 use Rattle.cv_io.specs.Files.{Files}
 use Rattle.cv_io.specs.Streams.{Appends}
 use Rattle.cv_app.specs.declared.served.Served.{Served}
@@ -30,18 +30,25 @@ one_answer files Unknown answer other t h k = k ∙ sym h
 abbrev served_of : ℕ → List ℕ → List ℕ → Served
 served_of status out errs = record { status = status; out = out; errs = errs }
 
+same_served : (served answer : Served) → served.status ≡ answer.status → Appends (Some []) answer.out (Some served.out) → Writes (Some []) answer.errs (Some served.errs) 0 0 → served ≡ answer
+same_served served answer e o (inl w) =
+    let printed_same : served.out ≡ answer.out = cc in
+    let refused_same : served.errs ≡ answer.errs = cc in
+    ap (λ (n : ℕ). served_of n served.out served.errs) e ∙ ap (λ (text : List ℕ). served_of answer.status text served.errs) printed_same
+    ∙ ap (λ (text : List ℕ). served_of answer.status answer.out text) refused_same
+same_served served answer e o (inr cut) = absurd (grind arith)
+
 -- what was served is the answer that was given
 given_served : (files : Files) (command : Command) (served answer : Served) → IsTold command → Answers (Some files) command answer → served.status ≡ answer.status →
     Answered (Some files) command served.status (Some []) (Some served.out) (Some []) (Some served.errs) 0 0 → served ≡ answer
-given_served files command served answer t h same given = same_served given.status_is given.printed given.refused ∙ one_answer files command answer given.answer t h given.is
-  where
-    same_served : served.status ≡ given.answer.status → Appends (Some []) given.answer.out (Some served.out) → Writes (Some []) given.answer.errs (Some served.errs) 0 0 → served ≡ given.answer
-    same_served e o (inl w) =
-        let printed_same : served.out ≡ given.answer.out = cc in
-        let refused_same : served.errs ≡ given.answer.errs = cc in
-        ap (λ (n : ℕ). served_of n served.out served.errs) e ∙ ap (λ (text : List ℕ). served_of given.answer.status text served.errs) printed_same
-        ∙ ap (λ (text : List ℕ). served_of given.answer.status given.answer.out text) refused_same
-    same_served e o (inr cut) = absurd (grind arith)
+given_served files command served answer t h same given = same_served served given.answer given.status_is given.printed given.refused ∙ one_answer files command answer given.answer t h given.is
+
+-- what was served is the answer, where neither a fault nor want of memory came between
+pub served_answer : (told : Option Files) (command : Command) (served : Served) →
+    (IsSettled served.status → Answered told command served.status (Some []) (Some served.out) (Some []) (Some served.errs) 0 0) → IsSettled served.status → Answers told command served
+served_answer told command served answered calm =
+    let given = answered calm in
+    subst (λ (s : Served). Answers told command s) (sym (same_served served given.answer given.status_is given.printed given.refused)) given.is
 
 same_number : (m n : ℕ) → nat_eq m n ≡ true → m ≡ n
 same_number m n e = grind arith

@@ -1,11 +1,12 @@
 use Rattle.std.proofs.Common.{ℕ, List, Some, IfSome, refl, inl, inr, lit≤, subst}
 use Rattle.cv_app.specs.declared.served.Served.{Served}
 use Rattle.cv_app.specs.Answers.{Answers}
-use Rattle.cv_app.specs.Commands.{Command, Unknown, IsTold}
+use Rattle.cv_app.specs.Commands.{Command, Unknown, IsTold, words_of}
 use Rattle.cv_app.specs.Served.{refused}
 use Rattle.cv_app.specs.Sinks.{Answered, Becomes, RefusesBy}
 use Rattle.cv_app.specs.Texts.{usage_text}
 use Rattle.cv_app.proofs.Outcomes.{answered_reported, refuses_reported}
+use Rattle.cv_app.proofs.WordLemmas.{clean_file, no_core, no_run}
 use Rattle.cv_app.proofs.app.cssv.Goals as goal
 
 pub returns-in-Check-clause-exactly : goal.returns-in-Check-clause-exactly
@@ -39,3 +40,17 @@ returns-in-Unknown-clause-errs g c =
     (g.E.Sink.faults c.args.errs.now) (g.E.Sink.faults c.report.new.errs)) (c.in-Unknown.ensures (g.I.Source.content c.args.input.now))
     (refuses_reported Unknown (refused 2 usage_text) c.report.result (g.E.Sink.content c.args.errs.now) (g.E.Sink.content c.report.new.errs)
     (g.E.Sink.faults c.args.errs.now) (g.E.Sink.faults c.report.new.errs) (lit≤ tt) (lit≤ tt) (inl (refl, refl)) (inr (refl, refl)) c.report.ensures)
+
+pub returns-in-Check-clause-headline : goal.returns-in-Check-clause-headline
+returns-in-Check-clause-headline g c = λ file cert words zero.
+    clean_file (g.I.Source.content c.args.input.now) (words_of c.args.words.now) (g.S.Store.content c.args.store.now) file cert c.in-Check.file.now c.in-Check.cert.now words
+    (c.in-Check.ensures (g.I.Source.content c.args.input.now)) (c.check.ensures.headline zero)
+
+pub returns-in-Core-clause-headline : goal.returns-in-Core-clause-headline
+returns-in-Core-clause-headline g c = λ file cert words zero.
+    absurd (no_core (g.I.Source.content c.args.input.now) (words_of c.args.words.now) file cert c.in-Core.file.now words (c.in-Core.ensures (g.I.Source.content c.args.input.now)))
+
+pub returns-in-Run-clause-headline : goal.returns-in-Run-clause-headline
+returns-in-Run-clause-headline g c = λ file cert words zero.
+    absurd (no_run (g.I.Source.content c.args.input.now) (words_of c.args.words.now) file cert c.in-Run.file.now c.in-Run.steps (words_of c.in-Run.args.now) (g.I.Source.content c.args.input.now) words
+    (c.in-Run.ensures (g.I.Source.content c.args.input.now)))
