@@ -1,6 +1,6 @@
 -- The address of a cell is a cell of the memory.
-use Rattle.std.proofs.Common.{◌≡◌, refl, sym, ap, subst, ◌∙◌, ℕ, zero, suc, ◌+◌, ◌⊎◌, inl, inr, Bool, true, false, cond, List, [], ◌∷◌, Option, Some, None}
-use Rattle.std.specs.Prelude.{slice_get, IsSome, if◌then◌else◌}
+use Rattle.std.proofs.Common.{◌≡◌, refl, sym, ap, subst, ◌∙◌, ℕ, suc, Bool, true, false, cond, List, [], ◌∷◌, Option, Some, None}
+use Rattle.std.specs.Prelude.{slice_get, IsSome}
 use Rattle.std.specs.List.{filter, find, position}
 use Rattle.std.specs.Option.{option_map, option_or}
 use Rattle.std.specs.Str.{bytes_eq}
@@ -16,7 +16,7 @@ use Rattle.cv_core.specs.declared.program.LocalBody.{LocalBody}
 use Rattle.cv_core.specs.declared.program.LocalBody.TheVariants as local
 use Rattle.cv_meaning.specs.Memory.{Memory, cell_at}
 use Rattle.cv_meaning.specs.State.{Frame, address, address_in}
-use Rattle.cv_interp.proofs.Kinded.{as_local, body_by, body_of, formal_body, outer_body}
+use Rattle.cv_interp.proofs.Kinded.{as_local, body_of, formal_body, outer_body}
 use Rattle.cv_interp.proofs.Places.{position_cons}
 use Rattle.cv_interp.specs.Sound.{HasGlobals, HasLocals, is_cell_global, is_cell_local}
 

@@ -1,14 +1,11 @@
 -- A procedure is entered in a sound state.
-use Rattle.std.proofs.Common.{◌≡◌, refl, sym, ap, subst, ◌∙◌, ℕ, zero, suc, ◌+◌, ◌<◌, ◌≤◌, ◌^◌, Bool, true, false, ◌&&◌, cond, List, [], ◌∷◌, ◌++◌, length, map, drop, Option, Some, None, arith, get_or}
-use Rattle.std.specs.Prelude.{All, slice_get, IsSome, if◌then◌else◌, ℤ, pos}
-use Rattle.std.specs.List.{filter}
-use Rattle.std.specs.Option.{option_map}
+use Rattle.std.proofs.Common.{◌≡◌, refl, sym, ap, subst, ◌∙◌, ℕ, zero, suc, ◌<◌, ◌^◌, Bool, true, false, List, [], ◌∷◌, ◌++◌, length, map, arith}
+use Rattle.std.specs.Prelude.{All, if◌then◌else◌, ℤ}
 use Rattle.std.specs.Str.{bytes_eq}
-use Rattle.std.proofs.lemmas.List.{length-append, length-map}
-use Rattle.std.proofs.lemmas.Slice.Eq.{bytes_eq-Decides}
+use Rattle.std.proofs.lemmas.List.{length-map}
 use Rattle.cv_core.specs.Grammar.{IsLocal, IsLocalBody}
 use Rattle.cv_core.specs.Kinds.{takes, takes_each}
-use Rattle.cv_core.specs.Names.{Name, is_object, kind_among, kind_of, locals_of, objects_of}
+use Rattle.cv_core.specs.Names.{Name, kind_among, locals_of}
 use Rattle.cv_core.specs.declared.program.Program.{Program}
 use Rattle.cv_core.specs.declared.program.Proc.{Proc}
 use Rattle.cv_core.specs.declared.program.Formal.{Formal}
@@ -17,7 +14,6 @@ use Rattle.cv_core.specs.declared.program.LocalBody.{LocalBody}
 use Rattle.cv_core.specs.declared.program.LocalBody.TheVariants as local
 use Rattle.cv_core.specs.declared.program.AnyOperand.{AnyOperand}
 use Rattle.cv_core.specs.declared.program.AnyOperand.TheVariants as any
-use Rattle.cv_core.specs.declared.program.Operand.{Operand}
 use Rattle.cv_core.specs.declared.program.Operand.TheVariants as operand
 use Rattle.cv_core.specs.declared.program.VarKind.{VarKind}
 use Rattle.cv_core.specs.declared.program.VarKind.TheVariants as kind
@@ -27,14 +23,14 @@ use Rattle.cv_meaning.specs.declared.memory.Ptr.TheVariants.{Wild}
 use Rattle.cv_meaning.specs.declared.memory.Value.{Value}
 use Rattle.cv_meaning.specs.declared.memory.Value.TheVariants as value
 use Rattle.cv_meaning.specs.Contract.{Env}
-use Rattle.cv_meaning.specs.Memory.{Memory, cell_at, cell_held}
-use Rattle.cv_meaning.specs.State.{State, any_value, bind, fresh, fresh_bytes, fresh_numbers, make_local, make_locals, no_vars, operand_value, pointer, set, with_object}
+use Rattle.cv_meaning.specs.Memory.{Memory}
+use Rattle.cv_meaning.specs.State.{State, any_value, bind, fresh, fresh_bytes, fresh_numbers, make_local, make_locals, no_vars, pointer, set}
 use Rattle.cv_core.specs.Chars.{low_byte}
 use Rattle.cv_interp.proofs.Kinded.{iptr_is, pptr_is}
-use Rattle.cv_interp.proofs.Memories.{IsObject, append_keeps, append_memory, append_old}
+use Rattle.cv_interp.proofs.Memories.{IsObject, append_keeps, append_memory}
 use Rattle.cv_interp.proofs.Stepped.{first_true, second_true}
 use Rattle.cv_interp.proofs.Typed.{any_near, fit_keeps, fit_set}
-use Rattle.cv_interp.specs.Sound.{Fits, HasLocals, IsFit, IsMemory, Keeps, PointsToCell, is_cell_kind, is_cell_local}
+use Rattle.cv_interp.specs.Sound.{IsFit, IsMemory, Keeps, PointsToCell, is_cell_kind}
 use Rattle.cv_interp.specs.Takes.{IsNear}
 
 -- ---- arguments

@@ -1,5 +1,5 @@
 -- The range of an extern procedure, as the numbers of its two atoms.
-use Rattle.std.proofs.Common.{◌≡◌, refl, sym, ap, ◌∙◌, ℕ, Bool, true, false, not, ◌&&◌, cond, List, [], ◌∷◌, Option, Some, None, arith, ℤ, pos, ◌+ℤ◌}
+use Rattle.std.proofs.Common.{◌≡◌, refl, ap, ℕ, Bool, true, false, not, ◌&&◌, List, [], ◌∷◌, Option, Some, None, arith, ℤ, pos, ◌+ℤ◌}
 use Rattle.std.specs.Prelude.{slice_get, if◌then◌else◌}
 use Rattle.std.specs.Option.{is_none, unwrap_or}
 use Rattle.std.proofs.lemmas.Int.{ints}
@@ -13,7 +13,7 @@ use Rattle.cv_core.specs.declared.program.Term.{Term}
 use Rattle.cv_core.specs.declared.program.Rel.TheVariants as rel
 use Rattle.cv_meaning.specs.Call.{bound, first_alternative}
 use Rattle.cv_meaning.specs.Contract.{Scene, lin_value, signed}
-use Rattle.cv_interp.proofs.Stepped.{first_true, second_true}
+use Rattle.cv_interp.proofs.Stepped.{second_true}
 use Rattle.cv_interp.specs.Called.{bound_by, lone_or_zero, number_or_zero}
 
 signed_number : (b : Bool) (k : ℕ) → signed b (pos k) +ℤ pos 0 ≡ number_or_zero b (Some k)

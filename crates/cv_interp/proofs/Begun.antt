@@ -1,5 +1,5 @@
 -- The memory at the start, object by object.
-use Rattle.std.proofs.Common.{◌≡◌, refl, sym, ap, ◌∙◌, ℕ, zero, suc, ◌+◌, List, [], ◌∷◌, ◌++◌, append_assoc, length, replicate, arith, ℤ, true}
+use Rattle.std.proofs.Common.{◌≡◌, refl, ap, ◌∙◌, ℕ, zero, suc, ◌+◌, List, [], ◌∷◌, ◌++◌, append_assoc, length, replicate, arith, ℤ, true}
 use Rattle.std.proofs.lemmas.List.{length-append}
 use Rattle.cv_core.specs.declared.program.Program.{Program}
 use Rattle.cv_core.specs.declared.program.GlobalDecl.{GlobalDecl}

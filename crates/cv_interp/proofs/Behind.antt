@@ -1,42 +1,38 @@
 -- A machine behind the return of the procedure that ran.
-use Rattle.std.proofs.Common.{◌≡◌, refl, sym, ap, subst, ◌∙◌, ℕ, zero, suc, ◌+◌, ◌≤◌, ◌^◌, List, [], ◌∷◌, ◌++◌, length, map, Option, Some, None, arith, true}
+use Rattle.std.proofs.Common.{◌≡◌, refl, sym, ap, subst, ◌∙◌, ℕ, suc, ◌+◌, List, [], ◌∷◌, ◌++◌, length, map, Option, Some, None, arith, true}
 use Rattle.std.specs.Prelude.{All, IfSome, slice_get}
-use Rattle.std.specs.Option.{option_to_list}
 use Rattle.std.proofs.lemmas.List.{map-append}
 use Rattle.std.proofs.lemmas.List.Elements.{All-pop}
-use Rattle.cv_core.specs.Kinds.{calls, has_kinds}
+use Rattle.cv_core.specs.Kinds.{has_kinds}
 use Rattle.cv_core.specs.Meant.{built_in, called}
 use Rattle.cv_core.specs.Names.{Name, stmts_of}
 use Rattle.cv_core.specs.declared.program.Program.{Program}
 use Rattle.cv_core.specs.declared.program.Proc.{Proc}
-use Rattle.cv_core.specs.declared.program.Stmt.{Stmt}
 use Rattle.cv_core.specs.declared.program.Form.{Form}
 use Rattle.cv_core.specs.declared.program.Form.TheVariants as form
 use Rattle.cv_meaning.specs.declared.memory.Value.{Value}
 use Rattle.cv_meaning.specs.Look.{look}
 use Rattle.cv_meaning.specs.State.{Frame, State}
 use Rattle.cv_meaning.specs.Call.{give}
-use Rattle.cv_meaning.specs.Run.{Returned, into_of, resume, run}
+use Rattle.cv_meaning.specs.Run.{Returned, into_of, run}
 use Rattle.cv_interp.specs.declared.machine.Core.{Core}
-use Rattle.cv_interp.specs.declared.machine.Ended.{Ended}
 use Rattle.cv_interp.specs.declared.machine.Ended.TheVariants as ended
 use Rattle.cv_interp.specs.declared.machine.Turn.TheVariants as answers
 use Rattle.cv_interp.specs.declared.store.Activation.{Activation}
 use Rattle.cv_interp.specs.declared.store.Room.{Room}
-use Rattle.cv_interp.specs.declared.store.Store.{Store}
 use Rattle.cv_interp.specs.declared.store.Waiting.{Waiting}
 use Rattle.cv_interp.specs.Called.{IsInto}
 use Rattle.cv_interp.specs.Entered.{IsRoom}
-use Rattle.cv_interp.specs.Good.{IsActive, IsAtCall, IsGood, IsWaiting}
+use Rattle.cv_interp.specs.Good.{IsGood, IsWaiting}
 use Rattle.cv_interp.specs.Level.{Level, Stack}
-use Rattle.cv_interp.specs.Machine.{Outcome, answer_of, end, end_behind, form_held, form_of, frame_of, into_at, is_call, resumed, runs, seen, state_of, turn_of}
+use Rattle.cv_interp.specs.Machine.{Outcome, answer_of, end, end_behind, form_held, form_of, frame_of, into_at, is_call, resumed, seen, state_of, turn_of}
 use Rattle.cv_interp.specs.Seen.{frame, left, state}
-use Rattle.cv_interp.specs.Slots.{env_of, slot_names, with_values}
+use Rattle.cv_interp.specs.Slots.{env_of}
 use Rattle.cv_interp.specs.Sound.{IsState}
 use Rattle.cv_interp.specs.Stack.{stack_of, waiting_level}
 use Rattle.cv_interp.specs.Takes.{IsNear}
 use Rattle.cv_interp.proofs.Calling.{IsPlain, give_later, IsLater}
-use Rattle.cv_interp.proofs.Going.{state_same, waiting_keeps}
+use Rattle.cv_interp.proofs.Going.{waiting_keeps}
 use Rattle.cv_interp.proofs.Guests.{call_plain, call_slot}
 use Rattle.cv_interp.proofs.Leads.{end_open, end_returned, end_zero, resumed_append}
 use Rattle.cv_interp.proofs.Parts.{fine_of, good_of}

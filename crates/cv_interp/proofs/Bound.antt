@@ -1,5 +1,5 @@
 -- Formals with their arguments, and the variables of a procedure as it is entered.
-use Rattle.std.proofs.Common.{◌≡◌, refl, sym, ap, subst, ◌∙◌, ℕ, zero, suc, ◌+◌, Bool, true, false, cond, List, [], ◌∷◌, ◌++◌, append_assoc, length, map, replicate, Option, Some, None, arith}
+use Rattle.std.proofs.Common.{◌≡◌, refl, sym, ap, ◌∙◌, ℕ, zero, suc, ◌+◌, Bool, true, false, cond, List, [], ◌∷◌, ◌++◌, append_assoc, length, map, replicate, Option, Some, None}
 use Rattle.std.specs.Prelude.{IsSome, if◌then◌else◌}
 use Rattle.std.specs.List.{filter, filter_map}
 use Rattle.std.specs.Option.{option_map}
@@ -19,10 +19,10 @@ use Rattle.cv_meaning.specs.Call.{entered}
 use Rattle.cv_meaning.specs.Contract.{Env, Scene, item_object}
 use Rattle.cv_meaning.specs.Look.{look}
 use Rattle.cv_meaning.specs.Memory.{Memory}
-use Rattle.cv_meaning.specs.State.{Frame, bind, no_vars, set}
+use Rattle.cv_meaning.specs.State.{Frame, bind, no_vars}
 use Rattle.cv_interp.specs.declared.entering.Guest.{Guest}
 use Rattle.cv_interp.specs.Entered.{AreVariables, arguments, arrived}
-use Rattle.cv_interp.specs.Slots.{env_of, is_variable, slot_in, slot_names, variables_of, with_values}
+use Rattle.cv_interp.specs.Slots.{env_of, is_variable, slot_in, variables_of, with_values}
 use Rattle.cv_interp.specs.Takes.{HasSlot}
 
 -- ---- the formals

@@ -1,9 +1,8 @@
 -- A call leads from a sound state to a sound one.
-use Rattle.std.proofs.Common.{◌≡◌, refl, sym, ap, subst, ◌∙◌, ℕ, zero, suc, ◌+◌, ◌<◌, ◌≤◌, ◌^◌, Bool, true, false, List, [], ◌∷◌, ◌++◌, length, map, Option, Some, None, Ok, Err, arith, ℤ, pos, negsuc}
-use Rattle.std.specs.Prelude.{slice_get, slice_index_or, if◌then◌else◌}
+use Rattle.std.proofs.Common.{◌≡◌, refl, ℕ, ◌+◌, ◌<◌, ◌^◌, Bool, true, false, List, [], ◌∷◌, ◌++◌, length, Option, Some, None, arith, ℤ, pos, negsuc}
+use Rattle.std.specs.Prelude.{slice_get, slice_index_or}
 use Rattle.cv_core.specs.Kinds.{receives}
 use Rattle.cv_core.specs.Names.{Name, kind_of}
-use Rattle.cv_core.specs.declared.faults.ErrKind.{ErrKind}
 use Rattle.cv_core.specs.declared.program.Program.{Program}
 use Rattle.cv_core.specs.declared.program.Proc.{Proc}
 use Rattle.cv_core.specs.declared.program.ResultKind.{ResultKind}
@@ -22,7 +21,7 @@ use Rattle.cv_interp.proofs.Stepped.{IsNext, assign_value_next}
 use Rattle.cv_interp.proofs.Typed.{fit_keeps}
 use Rattle.cv_interp.specs.Called.{IsInto}
 use Rattle.cv_interp.specs.Sound.{IsState, Keeps, is_cell_kind}
-use Rattle.cv_interp.specs.Takes.{HasSlot, IsNear}
+use Rattle.cv_interp.specs.Takes.{IsNear}
 
 -- the state there is sound, and what were cells are cells
 abbrev pub IsLater : Program → Frame → State → State → Type 0

@@ -1,8 +1,6 @@
 -- A step of a machine that is no call and no return.
-use Rattle.std.proofs.Common.{◌≡◌, refl, sym, ap, subst, ◌∙◌, ℕ, zero, suc, ◌+◌, ◌<◌, ◌≤◌, ◌^◌, Bool, true, false, List, [], ◌∷◌, length, map, Option, Some, None, Ok, Err, Result, arith}
+use Rattle.std.proofs.Common.{◌≡◌, refl, sym, ap, subst, ◌∙◌, ℕ, ◌+◌, ◌<◌, ◌≤◌, ◌^◌, true, List, length, Option, Some, None, Ok, Err, arith}
 use Rattle.std.specs.Prelude.{All, slice_get, slice_index_or}
-use Rattle.cv_core.specs.Grammar.{IsForm}
-use Rattle.cv_core.specs.Kinds.{has_kinds}
 use Rattle.cv_core.specs.Limits.{first_limit}
 use Rattle.cv_core.specs.Names.{locals_of, stmts_of}
 use Rattle.cv_core.specs.declared.faults.ErrKind.{ErrKind}
@@ -11,11 +9,10 @@ use Rattle.cv_core.specs.declared.program.Proc.{Proc}
 use Rattle.cv_core.specs.declared.program.Stmt.{Stmt}
 use Rattle.cv_core.specs.declared.program.Form.{Form}
 use Rattle.cv_core.specs.declared.program.Form.TheVariants as form
-use Rattle.cv_meaning.specs.declared.ends.RunEnd.TheVariants as how
 use Rattle.cv_meaning.specs.Memory.{Memory}
 use Rattle.cv_meaning.specs.State.{Frame, State}
 use Rattle.cv_meaning.specs.Step.{Next, step}
-use Rattle.cv_meaning.specs.Call.{Turn, Errs, Goes}
+use Rattle.cv_meaning.specs.Call.{Errs, Goes}
 use Rattle.cv_meaning.specs.Run.{as_goes, turn}
 use Rattle.cv_interp.specs.declared.machine.Core.{Core}
 use Rattle.cv_interp.specs.declared.machine.Ended.{Ended}
@@ -23,18 +20,17 @@ use Rattle.cv_interp.specs.declared.machine.Ended.TheVariants as ended
 use Rattle.cv_interp.specs.declared.machine.Turn.TheVariants as answers
 use Rattle.cv_interp.specs.declared.store.Store.{Store}
 use Rattle.cv_interp.specs.declared.store.Waiting.{Waiting}
-use Rattle.cv_interp.specs.Entered.{IsRoom}
-use Rattle.cv_interp.specs.Good.{IsActive, IsGood, IsWaiting, Leads, is_plain}
-use Rattle.cv_interp.specs.Machine.{end, frame_of, state_of, turn_of}
+use Rattle.cv_interp.specs.Good.{IsGood, IsWaiting, Leads, is_plain}
+use Rattle.cv_interp.specs.Machine.{end, state_of, turn_of}
 use Rattle.cv_interp.specs.Seen.{frame, state}
 use Rattle.cv_interp.specs.Slots.{env_of}
-use Rattle.cv_interp.specs.Sound.{IsState, Keeps}
-use Rattle.cv_interp.specs.Stack.{stack_of, waiting_level}
+use Rattle.cv_interp.specs.Sound.{Keeps}
+use Rattle.cv_interp.specs.Stack.{stack_of}
 use Rattle.cv_interp.specs.Takes.{IsKept, IsReady, IsSmall}
 use Rattle.cv_interp.proofs.Leads as leads
 use Rattle.cv_interp.proofs.Limited.{few_locals, few_stmts, form_written, inside}
 use Rattle.cv_interp.proofs.Stepped.{IsNext, Nexts, ready, step_sound}
-use Rattle.cv_interp.proofs.Typed.{All_ok, fit_keeps}
+use Rattle.cv_interp.proofs.Typed.{fit_keeps}
 
 pub plain_turn : (P : Program) (f : Frame) (k : ℕ) (form : Form) (s : State) → is_plain form ≡ true → turn P f k form s ≡ as_goes (step P f k form s)
 unfolding turn

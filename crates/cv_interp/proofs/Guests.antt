@@ -1,33 +1,29 @@
 -- A call leads from a sound state to a sound one.
-use Rattle.std.proofs.Common.{◌≡◌, refl, sym, ap, subst, ◌∙◌, ℕ, zero, suc, ◌+◌, ◌<◌, ◌^◌, Bool, true, false, ◌&&◌, cond, List, [], ◌∷◌, length, map, Option, Some, None, Ok, Err, arith, ℤ, pos}
+use Rattle.std.proofs.Common.{◌≡◌, refl, sym, ap, subst, ◌∙◌, ℕ, ◌+◌, ◌<◌, ◌^◌, Bool, true, false, List, length, map, Option, Some, None, Ok, arith, pos}
 use Rattle.std.specs.Prelude.{All, IsSome, slice_get, codes, if◌then◌else◌}
-use Rattle.std.specs.List.{filter, list_all}
+use Rattle.std.specs.List.{list_all}
 use Rattle.std.specs.Str.{bytes_eq}
 use Rattle.cv_core.specs.Grammar.{IsBody, IsLocal, IsProc, IsWritten}
-use Rattle.cv_core.specs.Kinds.{calls, has_kinds, receives, takes_each}
+use Rattle.cv_core.specs.Kinds.{calls, receives, takes_each}
 use Rattle.cv_core.specs.Meant.{built_in, called, kinds_of}
-use Rattle.cv_core.specs.Names.{Name, is_object, locals_of, local_site, malloc_site, objects_of, place_of}
+use Rattle.cv_core.specs.Names.{Name, locals_of, local_site, malloc_site, place_of}
 use Rattle.cv_core.specs.declared.faults.ErrKind.{ErrKind}
 use Rattle.cv_core.specs.declared.faults.ErrKind.TheVariants as err
 use Rattle.cv_core.specs.declared.program.Program.{Program}
 use Rattle.cv_core.specs.declared.program.Proc.{Proc}
 use Rattle.cv_core.specs.declared.program.ProcBody.{ProcBody}
 use Rattle.cv_core.specs.declared.program.AnyOperand.{AnyOperand}
-use Rattle.cv_core.specs.declared.program.ResultKind.{ResultKind}
-use Rattle.cv_meaning.specs.declared.memory.Permit.{Permit}
-use Rattle.cv_meaning.specs.declared.memory.Value.{Value}
 use Rattle.cv_meaning.specs.declared.memory.Value.TheVariants as value
 use Rattle.cv_meaning.specs.Checked.{Checked, unless}
 use Rattle.cv_meaning.specs.Memory.{cell_at, is_no_literal, may_change}
-use Rattle.cv_meaning.specs.State.{Frame, State, any_value, bind, make_locals, no_vars}
-use Rattle.cv_meaning.specs.Call.{Turn, Errs, Goes, Enters, Leaves, as_turn, call, call_named, call_proc, call_turn, entered, entry_turn, extern_answer, first_number, getchar, malloc, may_enter, permitted, putchar}
+use Rattle.cv_meaning.specs.State.{Frame, State, any_value, make_locals}
+use Rattle.cv_meaning.specs.Call.{Turn, Enters, as_turn, call, call_named, call_proc, call_turn, entered, entry_turn, extern_answer, first_number, getchar, malloc, may_enter, permitted, putchar}
 use Rattle.cv_interp.proofs.Arriving.{IsEntered, arguments_fit, locals_entered}
 use Rattle.cv_interp.proofs.Calling.{IsPlain, Leads_on, getchar_later, give_later, into_plain, into_slot, malloc_later, putchar_later, world_state}
 use Rattle.cv_interp.proofs.Kept.{locals_cells}
 use Rattle.cv_interp.proofs.Limited.{all_at}
 use Rattle.cv_interp.proofs.Named.{called_is}
 use Rattle.cv_interp.proofs.Stepped.{first_true, second_true}
-use Rattle.cv_interp.proofs.Typed.{fit_keeps}
 use Rattle.cv_interp.specs.Called.{IsInto}
 use Rattle.cv_interp.specs.Sound.{IsFit, IsState}
 

@@ -1,5 +1,5 @@
 -- The local objects of a procedure that is entered.
-use Rattle.std.proofs.Common.{◌≡◌, refl, sym, ap, subst, ◌∙◌, ℕ, zero, suc, ◌+◌, Bool, true, false, cond, List, [], ◌∷◌, ◌++◌, length, Option, Some, None, arith}
+use Rattle.std.proofs.Common.{◌≡◌, refl, sym, ap, subst, ◌∙◌, ℕ, zero, suc, ◌+◌, true, cond, List, [], ◌∷◌, ◌++◌, length, Option, Some, arith}
 use Rattle.std.specs.Prelude.{slice_get, IsSome}
 use Rattle.std.specs.List.{filter}
 use Rattle.std.proofs.lemmas.List.{length-append}
@@ -12,7 +12,6 @@ use Rattle.cv_core.specs.declared.program.VarKind.TheVariants as kind
 use Rattle.cv_meaning.specs.declared.memory.Object.{Object}
 use Rattle.cv_meaning.specs.declared.memory.Body.TheVariants.{Buffer, Cell}
 use Rattle.cv_meaning.specs.declared.memory.Ptr.TheVariants.{Wild}
-use Rattle.cv_meaning.specs.declared.memory.Value.{Value}
 use Rattle.cv_meaning.specs.declared.memory.Value.TheVariants as value
 use Rattle.cv_meaning.specs.Memory.{Memory, cell_at, cell_held, cell_in}
 use Rattle.cv_meaning.specs.State.{State, fresh, fresh_bytes, make_local, make_locals, next_site}

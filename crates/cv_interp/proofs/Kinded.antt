@@ -1,10 +1,10 @@
 -- What a name is declared as, and the kind and the slot of a variable.
-use Rattle.std.proofs.Common.{◌≡◌, refl, sym, ap, subst, ◌∙◌, ℕ, suc, ◌⊎◌, inl, inr, Bool, true, false, cond, List, [], ◌∷◌, ◌++◌, map, Option, Some, None}
+use Rattle.std.proofs.Common.{◌≡◌, refl, sym, ap, ◌∙◌, ℕ, suc, ◌⊎◌, inl, inr, Bool, true, false, cond, List, [], ◌∷◌, ◌++◌, map, Option, Some, None}
 use Rattle.std.specs.Prelude.{IsSome, if◌then◌else◌}
 use Rattle.std.specs.List.{filter, find}
 use Rattle.std.specs.Option.{option_map, option_or}
 use Rattle.std.specs.Str.{bytes_eq}
-use Rattle.cv_core.specs.Kinds.{means_char, means_int, means_iptr, means_number, means_pointer, means_pptr, means_ptr}
+use Rattle.cv_core.specs.Kinds.{means_int, means_iptr, means_number, means_pptr, means_ptr}
 use Rattle.cv_core.specs.Meant.{meant_by_global, meant_by_local, meant_in}
 use Rattle.cv_core.specs.Names.{Name, kind_among, kind_in_locals, kind_of, kind_of_local, locals_of}
 use Rattle.cv_core.specs.declared.program.Program.{Program}
@@ -19,7 +19,7 @@ use Rattle.cv_core.specs.declared.program.LocalBody.{LocalBody}
 use Rattle.cv_core.specs.declared.program.LocalBody.TheVariants as local
 use Rattle.cv_core.specs.declared.program.VarKind.{VarKind}
 use Rattle.cv_core.specs.declared.program.VarKind.TheVariants as kind
-use Rattle.cv_interp.specs.Slots.{is_variable, slot_in, slot_names, slot_of, variables_of}
+use Rattle.cv_interp.specs.Slots.{is_variable, slot_in, variables_of}
 use Rattle.cv_interp.specs.Sound.{is_cell_kind}
 use Rattle.cv_interp.specs.Takes.{HasSlot}
 

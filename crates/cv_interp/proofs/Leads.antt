@@ -1,15 +1,12 @@
 -- One step of a machine, by what the step of the meaning leads to.
-use Rattle.std.proofs.Common.{◌≡◌, refl, sym, ap, subst, ◌∙◌, ℕ, zero, suc, ◌+◌, List, [], ◌∷◌, ◌++◌, Option, Some, None, arith}
+use Rattle.std.proofs.Common.{◌≡◌, refl, sym, ap, ◌∙◌, ℕ, zero, suc, ◌+◌, List, [], ◌∷◌, ◌++◌, Option, Some, None, arith}
 use Rattle.std.specs.Prelude.{slice_get}
 use Rattle.cv_core.specs.Names.{stmts_of}
 use Rattle.cv_core.specs.declared.faults.ErrKind.{ErrKind}
 use Rattle.cv_core.specs.declared.program.Program.{Program}
 use Rattle.cv_core.specs.declared.program.Stmt.{Stmt}
-use Rattle.cv_meaning.specs.declared.ends.RunEnd.{RunEnd}
 use Rattle.cv_meaning.specs.declared.ends.RunEnd.TheVariants as how
 use Rattle.cv_meaning.specs.declared.memory.Value.{Value}
-use Rattle.cv_meaning.specs.declared.memory.World.{World}
-use Rattle.cv_meaning.specs.Memory.{Memory}
 use Rattle.cv_meaning.specs.State.{Frame, State}
 use Rattle.cv_meaning.specs.Call.{Turn, Errs, Goes, Enters, Leaves}
 use Rattle.cv_meaning.specs.Run.{End, Stopped, Error, Returned, after, at_stmt, one_step, resume, run, turn}

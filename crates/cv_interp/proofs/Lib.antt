@@ -29,3 +29,5 @@ pub mod Behind
 pub mod Onward
 pub mod Outward
 pub mod Taking
+pub mod Passed
+pub mod Planned

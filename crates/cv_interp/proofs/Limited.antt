@@ -1,13 +1,12 @@
 -- What the limits and the grammar say of each procedure.
 use Rattle.std.proofs.Common.{◌≡◌, refl, sym, ap, subst, ◌∙◌, ℕ, zero, suc, ◌+◌, ◌<◌, ◌≤◌, Bool, true, false, ◌||◌, cond, List, [], ◌∷◌, length, Option, Some, None, arith, get_or}
-use Rattle.std.specs.Prelude.{All, slice_get, nat_lt}
+use Rattle.std.specs.Prelude.{All, slice_get}
 use Rattle.std.specs.List.{find, list_any}
 use Rattle.std.proofs.lemmas.Bool.{ltb-false}
 use Rattle.std.proofs.lemmas.Option.{slice_get-get_or}
 use Rattle.cv_core.specs.Grammar.{IsBody, IsForm, IsProc, IsStmt, IsWritten}
 use Rattle.cv_core.specs.Limits.{first_limit, has_many_parts, is_passed, part_count, passes, tested, variable_count}
 use Rattle.cv_core.specs.Names.{locals_of, stmts_at, stmts_of}
-use Rattle.cv_core.specs.declared.faults.LimitName.{LimitName}
 use Rattle.cv_core.specs.declared.faults.LimitName.TheVariants as limit
 use Rattle.cv_core.specs.declared.program.Program.{Program}
 use Rattle.cv_core.specs.declared.program.Proc.{Proc}

@@ -1,6 +1,6 @@
 -- Accesses of cells, by the life of the object.
-use Rattle.std.proofs.Common.{◌≡◌, refl, sym, ap, subst, ◌∙◌, ℕ, Bool, true, false, Option, Some, None, Ok, Err}
-use Rattle.std.specs.Prelude.{slice_get, IsSome, ℤ, pos, ◌-ℤ◌, ◌==◌}
+use Rattle.std.proofs.Common.{◌≡◌, refl, ap, subst, ◌∙◌, ℕ, true, false, Option, Some, None, Ok, Err}
+use Rattle.std.specs.Prelude.{slice_get, IsSome, pos, ◌-ℤ◌, ◌==◌}
 use Rattle.cv_core.specs.declared.faults.ErrKind.{ErrKind}
 use Rattle.cv_core.specs.declared.faults.ErrKind.TheVariants as err
 use Rattle.cv_meaning.specs.declared.memory.Object.{Object}
@@ -13,7 +13,7 @@ use Rattle.cv_meaning.specs.declared.memory.Value.{Value}
 use Rattle.cv_meaning.specs.declared.memory.Value.TheVariants as value
 use Rattle.cv_meaning.specs.Checked.{Checked, ◌>>=◌, unless}
 use Rattle.cv_meaning.specs.Contract.{content, content_in, live_body}
-use Rattle.cv_meaning.specs.Memory.{Memory, Place, body_set, cell_at, cell_held, cell_of, diff, get, is_live, live, may_change, place, place_at, put, with_body}
+use Rattle.cv_meaning.specs.Memory.{Memory, Place, cell_at, cell_held, cell_of, diff, get, is_live, live, may_change, place, place_at, put, with_body}
 use Rattle.cv_interp.specs.Cells.{IsCellIfLive}
 
 abbrev pub or_zero : Option Value → Value

@@ -1,8 +1,7 @@
 -- Memories after a change of one object, and after one more.
-use Rattle.std.proofs.Common.{◌≡◌, refl, sym, ap, subst, ◌∙◌, ℕ, zero, suc, ◌+◌, ◌<◌, ◌⊎◌, inl, inr, Bool, true, false, List, [], ◌∷◌, ◌++◌, length, Option, Some, None, arith}
+use Rattle.std.proofs.Common.{◌≡◌, refl, sym, ap, subst, ◌∙◌, ℕ, zero, suc, ◌⊎◌, inl, inr, false, [], ◌∷◌, ◌++◌, length, Option, Some, None}
 use Rattle.std.specs.Prelude.{slice_get, slice_set, IsSome}
 use Rattle.cv_meaning.specs.declared.memory.Object.{Object}
-use Rattle.cv_meaning.specs.declared.memory.Body.{Body}
 use Rattle.cv_meaning.specs.declared.memory.Value.{Value}
 use Rattle.cv_meaning.specs.Memory.{IsShort, Memory, cell_at, cell_held, cell_in, kill, kill_from, live_ended}
 use Rattle.cv_interp.specs.Sound.{IsMemory, Keeps}

@@ -1,5 +1,5 @@
 -- A machine behind a call.
-use Rattle.std.proofs.Common.{◌≡◌, refl, sym, ap, subst, ◌∙◌, ℕ, zero, suc, ◌+◌, ◌<◌, ◌≤◌, ◌^◌, List, [], ◌∷◌, ◌++◌, length, map, Option, Some, None, Ok, Err, arith, ℤ, pos}
+use Rattle.std.proofs.Common.{◌≡◌, refl, sym, ap, subst, ◌∙◌, ℕ, zero, suc, ◌+◌, ◌<◌, ◌≤◌, ◌^◌, List, [], ◌∷◌, ◌++◌, length, map, Option, Some, None, arith, pos}
 use Rattle.std.specs.Prelude.{All, slice_get, slice_index_or, true}
 use Rattle.std.proofs.lemmas.List.{map-append}
 use Rattle.std.proofs.lemmas.List.Elements.{All-append}
@@ -9,20 +9,16 @@ use Rattle.cv_core.specs.Meant.{built_in}
 use Rattle.cv_core.specs.Meant.{called as proc_called}
 use Rattle.cv_core.specs.declared.faults.ErrKind.{ErrKind}
 use Rattle.cv_core.specs.declared.program.AnyOperand.{AnyOperand}
-use Rattle.cv_core.specs.declared.program.Program.{Program}
-use Rattle.cv_core.specs.declared.program.Proc.{Proc}
 use Rattle.cv_core.specs.declared.program.Stmt.{Stmt}
 use Rattle.cv_core.specs.declared.program.Form.{Form}
 use Rattle.cv_core.specs.declared.program.Form.TheVariants as form
-use Rattle.cv_meaning.specs.declared.memory.Value.{Value}
-use Rattle.cv_meaning.specs.State.{Frame, State, any_value}
+use Rattle.cv_meaning.specs.State.{any_value}
 use Rattle.cv_meaning.specs.Call.{Turn, Errs, Goes, Enters, call, first_number}
 use Rattle.cv_meaning.specs.Run.{turn}
 use Rattle.cv_interp.specs.declared.calls.Called.{Called}
 use Rattle.cv_interp.specs.declared.calls.Called.TheVariants as called
 use Rattle.cv_interp.specs.declared.calls.Entered.{Entered}
 use Rattle.cv_interp.specs.declared.machine.Core.{Core}
-use Rattle.cv_interp.specs.declared.machine.Ended.{Ended}
 use Rattle.cv_interp.specs.declared.machine.Ended.TheVariants as ended
 use Rattle.cv_interp.specs.declared.machine.Turn.TheVariants as answers
 use Rattle.cv_interp.specs.declared.store.Activation.{Activation}
@@ -31,14 +27,14 @@ use Rattle.cv_interp.specs.declared.store.Store.{Store}
 use Rattle.cv_interp.specs.declared.store.Waiting.{Waiting}
 use Rattle.cv_interp.specs.Called.{IsCalled, IsInto, IsSame}
 use Rattle.cv_interp.specs.Entered.{IsRoom}
-use Rattle.cv_interp.specs.Good.{IsActive, IsAtCall, IsGood, IsWaiting, Leads}
+use Rattle.cv_interp.specs.Good.{IsGood, IsWaiting, Leads}
 use Rattle.cv_interp.specs.Machine.{end, is_call, turn_of}
-use Rattle.cv_interp.specs.Seen.{frame, left, state}
-use Rattle.cv_interp.specs.Slots.{env_of, slot_names}
+use Rattle.cv_interp.specs.Seen.{frame, state}
+use Rattle.cv_interp.specs.Slots.{env_of}
 use Rattle.cv_interp.specs.Sound.{HasGlobals, HasLocals, IsFit, IsMemory}
 use Rattle.cv_interp.specs.Stack.{level_at, stack_of, waiting_level}
 use Rattle.cv_interp.proofs.Calling.{IsLater, Leads_on}
-use Rattle.cv_interp.proofs.Going.{fail_leads, state_same, waiting_keeps}
+use Rattle.cv_interp.proofs.Going.{fail_leads, waiting_keeps}
 use Rattle.cv_interp.proofs.Guests.{call_later, call_slot}
 use Rattle.cv_interp.proofs.Leads as leads
 use Rattle.cv_interp.proofs.Parts.{fine_of, good_of}

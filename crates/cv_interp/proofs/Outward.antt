@@ -1,6 +1,6 @@
 -- A machine behind a return.
-use Rattle.std.proofs.Common.{◌≡◌, refl, sym, ap, subst, ◌∙◌, ℕ, zero, suc, ◌+◌, ◌≤◌, ◌^◌, ◌⊎◌, inl, inr, List, length, map, Option, Some, None, arith}
-use Rattle.std.specs.Prelude.{All, IfSome, option_map, slice_get}
+use Rattle.std.proofs.Common.{◌≡◌, refl, sym, ap, subst, ◌∙◌, ℕ, ◌+◌, ◌≤◌, ◌^◌, ◌⊎◌, inl, inr, List, length, map, Option, Some, None}
+use Rattle.std.specs.Prelude.{IfSome, option_map, slice_get}
 use Rattle.cv_core.specs.Names.{objects_of, stmts_of}
 use Rattle.cv_core.specs.declared.faults.ErrKind.{ErrKind}
 use Rattle.cv_core.specs.declared.program.AnyOperand.{AnyOperand}
@@ -14,17 +14,15 @@ use Rattle.cv_meaning.specs.State.{Frame, State, any_value}
 use Rattle.cv_meaning.specs.Call.{Turn, Errs, Leaves, leave, left_memory, option_value}
 use Rattle.cv_meaning.specs.Run.{Returned, turn}
 use Rattle.cv_interp.specs.declared.machine.Core.{Core}
-use Rattle.cv_interp.specs.declared.machine.Ended.{Ended}
 use Rattle.cv_interp.specs.declared.machine.Ended.TheVariants as ended
 use Rattle.cv_interp.specs.declared.machine.Turn.{Turn as Answer}
 use Rattle.cv_interp.specs.declared.machine.Turn.TheVariants as answers
 use Rattle.cv_interp.specs.declared.store.Waiting.{Waiting}
-use Rattle.cv_interp.specs.Entered.{IsRoom}
-use Rattle.cv_interp.specs.Good.{IsGood, IsWaiting, Leads}
+use Rattle.cv_interp.specs.Good.{IsGood, Leads}
 use Rattle.cv_interp.specs.Machine.{Outcome, end, end_behind, resumed, seen, turn_of}
 use Rattle.cv_interp.specs.Seen.{frame, state}
 use Rattle.cv_interp.specs.Slots.{env_of}
-use Rattle.cv_interp.specs.Sound.{HasGlobals, HasLocals, IsFit, IsMemory, Keeps}
+use Rattle.cv_interp.specs.Sound.{IsFit, IsMemory, Keeps}
 use Rattle.cv_interp.specs.Stack.{stack_of, waiting_level}
 use Rattle.cv_interp.specs.Takes.{IsKept, IsNear}
 use Rattle.cv_interp.proofs.Going.{fail_leads, state_same, waiting_keeps}

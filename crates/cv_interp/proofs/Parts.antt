@@ -5,7 +5,6 @@ use Rattle.cv_core.specs.Grammar.{IsWritten}
 use Rattle.cv_core.specs.Limits.{first_limit}
 use Rattle.cv_core.specs.WellFormed.{IsSoundProgram}
 use Rattle.cv_core.specs.declared.program.Program.{Program}
-use Rattle.cv_meaning.specs.Memory.{Memory}
 use Rattle.cv_interp.specs.declared.machine.Core.{Core}
 use Rattle.cv_interp.specs.declared.store.Activation.{Activation}
 use Rattle.cv_interp.specs.declared.store.Waiting.{Waiting}

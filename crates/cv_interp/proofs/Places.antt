@@ -1,15 +1,12 @@
 -- The place of a name in a list, item by item, and the object of a name.
-use Rattle.std.proofs.Common.{◌≡◌, refl, sym, ap, subst, ◌∙◌, ℕ, zero, suc, ◌+◌, ◌<◌, ◌≤◌, inl, inr, Bool, true, false, not, cond, List, [], ◌∷◌, length, Option, Some, None, arith}
+use Rattle.std.proofs.Common.{◌≡◌, refl, sym, ap, ◌∙◌, ℕ, suc, ◌+◌, ◌<◌, ◌≤◌, inl, inr, Bool, true, false, not, cond, List, ◌∷◌, length, Option, Some, None, arith}
 use Rattle.std.specs.Prelude.{nat_lt}
 use Rattle.std.proofs.lemmas.Bool.{cases_lt, le-ltb, lt-ltb}
 use Rattle.std.specs.List.{filter, position, position_or_len}
 use Rattle.std.specs.Option.{option_map}
 use Rattle.std.specs.Str.{bytes_eq}
-use Rattle.cv_core.specs.Names.{Name, is_object, locals_of, objects_of, place_of}
+use Rattle.cv_core.specs.Names.{Name, is_object, place_of}
 use Rattle.cv_core.specs.declared.program.Local.{Local}
-use Rattle.cv_core.specs.declared.program.LocalBody.{LocalBody}
-use Rattle.cv_core.specs.declared.program.Program.{Program}
-use Rattle.cv_meaning.specs.State.{Frame, address, address_in}
 
 shifted : (b : Bool) (n : ℕ) → cond b (Some (1 + n)) None ≡ option_map suc (cond b (Some n) None)
 shifted true n = let e : 1 + n ≡ suc n = omega arith in ap Some e

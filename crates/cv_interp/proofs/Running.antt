@@ -1,5 +1,5 @@
 -- Many steps.
-use Rattle.std.proofs.Common.{◌≡◌, refl, sym, ap, ◌∙◌, ℕ, zero, suc, ◌+◌, ◌-◌, ◌<◌, ◌≤◌, Option, Some, None, Ok, Err, Result, arith}
+use Rattle.std.proofs.Common.{◌≡◌, refl, sym, ap, ◌∙◌, ℕ, ◌+◌, ◌-◌, ◌<◌, Option, Some, None, Ok, Err, Result, arith}
 use Rattle.std.specs.Prelude.{IfOk, OnOk}
 use Rattle.cv_meaning.specs.declared.ends.RunEnd.{RunEnd}
 use Rattle.cv_meaning.specs.declared.ends.RunEnd.TheVariants as how

@@ -1,6 +1,6 @@
 -- Each step that is no call and no return is ready, and leads from a sound state to a sound one.
-use Rattle.std.proofs.Common.{◌≡◌, refl, sym, ap, subst, ◌∙◌, ℕ, zero, suc, ◌+◌, ◌<◌, ◌⊎◌, inl, inr, Bool, true, false, ◌&&◌, ◌||◌, List, length, Option, Some, None, Ok, Err, Result, arith, ℤ, pos, ◌+ℤ◌}
-use Rattle.std.specs.Prelude.{slice_get, IsSome, if◌then◌else◌, ◌-ℤ◌, ◌*ℤ◌, ◌==◌}
+use Rattle.std.proofs.Common.{◌≡◌, refl, sym, ap, ◌∙◌, ℕ, ◌+◌, ◌⊎◌, inl, inr, Bool, true, false, ◌&&◌, length, Option, Some, None, Ok, Err, arith, ℤ, pos, ◌+ℤ◌}
+use Rattle.std.specs.Prelude.{if◌then◌else◌, ◌-ℤ◌, ◌*ℤ◌, ◌==◌}
 use Rattle.cv_core.specs.Grammar.{IsForm}
 use Rattle.cv_core.specs.Kinds.{copies, has_kinds, held_by, means_iptr, means_number, means_pointer, means_pptr, means_ptr, points_to, puts, same_pointers}
 use Rattle.cv_core.specs.Meant.{meant_by_local, meant_in}
@@ -9,7 +9,6 @@ use Rattle.cv_core.specs.declared.program.Program.{Program}
 use Rattle.cv_core.specs.declared.program.Proc.{Proc}
 use Rattle.cv_core.specs.declared.program.AnyOperand.{AnyOperand}
 use Rattle.cv_core.specs.declared.program.AnyOperand.TheVariants as any
-use Rattle.cv_core.specs.declared.program.Operand.{Operand}
 use Rattle.cv_core.specs.declared.program.Operand.TheVariants as operand
 use Rattle.cv_core.specs.declared.program.Form.{Form}
 use Rattle.cv_core.specs.declared.program.Form.TheVariants as form
@@ -24,8 +23,8 @@ use Rattle.cv_meaning.specs.declared.memory.Ptr.{Ptr}
 use Rattle.cv_meaning.specs.declared.memory.Ptr.TheVariants.{Null, Wild, At}
 use Rattle.cv_meaning.specs.declared.memory.Value.{Value}
 use Rattle.cv_meaning.specs.declared.memory.Value.TheVariants as value
-use Rattle.cv_meaning.specs.Checked.{Checked, ◌>>=◌, unless}
-use Rattle.cv_meaning.specs.Memory.{Memory, cell_at, diff, get, live, load, put, shift, store}
+use Rattle.cv_meaning.specs.Checked.{Checked}
+use Rattle.cv_meaning.specs.Memory.{Memory, diff, get, load, put, shift, store}
 use Rattle.cv_meaning.specs.State.{Frame, State, address, any_value, as_kind, assign, assign_value, operand_value, pointer, spend, with_var}
 use Rattle.cv_meaning.specs.Step.{Next, branch, branch_pointers, by_rel, copied, goes, is_int, jumps, pointer_of, ranged, step, value_of}
 use Rattle.cv_core.specs.Chars.{char_of, low_byte}
@@ -33,9 +32,9 @@ use Rattle.cv_core.specs.declared.faults.ErrKind.TheVariants as err
 use Rattle.std.specs.Int.RustNames.{int_div, int_rem}
 use Rattle.cv_interp.proofs.Addressed.{IsCellBody, address_cell}
 use Rattle.cv_interp.proofs.Kinded.{body_of, iptr_is, iptr_variable, means_is, number_plain, pptr_is, pptr_variable, ptr_plain, ptr_variable, variable_is}
-use Rattle.cv_interp.proofs.Typed.{All_ok, IsAfter, any_near, bind_all, fit_keeps, fit_set, get_near, kind_near, operand_near, plain_fits, put_after, shift_near, store_after, unless_all}
+use Rattle.cv_interp.proofs.Typed.{All_ok, IsAfter, any_near, bind_all, fit_keeps, fit_set, get_near, kind_near, plain_fits, put_after, shift_near, store_after, unless_all}
 use Rattle.cv_interp.specs.Cells.{IsCellIfLive}
-use Rattle.cv_interp.specs.Sound.{Fits, HasGlobals, HasLocals, IsFit, IsMemory, IsState, Keeps, PointsToCell, is_cell_kind}
+use Rattle.cv_interp.specs.Sound.{Fits, IsFit, IsState, Keeps, PointsToCell, is_cell_kind}
 use Rattle.cv_interp.specs.Takes.{HasSlot, IsNear, IsNearPtr, IsReady}
 
 -- ---- parts of tests

@@ -1,5 +1,5 @@
 -- A step of a machine that has ended, or that stands behind its last statement.
-use Rattle.std.proofs.Common.{◌≡◌, refl, sym, ap, subst, ◌∙◌, ℕ, zero, suc, ◌+◌, ◌<◌, ◌≤◌, Bool, true, false, List, [], ◌∷◌, length, get_or, Option, Some, None, arith}
+use Rattle.std.proofs.Common.{◌≡◌, refl, sym, ap, subst, ◌∙◌, ℕ, zero, suc, ◌+◌, ◌<◌, ◌≤◌, false, List, [], ◌∷◌, length, get_or, Some, None, arith}
 use Rattle.std.specs.Prelude.{slice_get}
 use Rattle.std.proofs.lemmas.Option.{slice_get-get_or}
 use Rattle.cv_core.specs.Names.{stmts_of}
@@ -9,7 +9,6 @@ use Rattle.cv_interp.specs.declared.machine.Ended.{Ended}
 use Rattle.cv_interp.specs.declared.machine.Turn.{Turn}
 use Rattle.cv_interp.specs.declared.machine.Turn.TheVariants as answers
 use Rattle.cv_interp.specs.Good.{Leads, ended_how}
-use Rattle.cv_interp.specs.Level.{Stack}
 use Rattle.cv_interp.specs.Machine.{at_call, end, form_held, is_call, stands_at_call, turn_of}
 use Rattle.cv_interp.specs.Stack.{stack_of}
 use Rattle.cv_interp.proofs.Leads as leads

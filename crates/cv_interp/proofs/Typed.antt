@@ -1,6 +1,6 @@
 -- A step that is no call and no return leads from a sound state to a sound one.
-use Rattle.std.proofs.Common.{◌≡◌, refl, sym, ap, subst, ◌∙◌, ℕ, zero, suc, ◌+◌, ◌<◌, ◌≤◌, ◌^◌, ◌⊎◌, inl, inr, Bool, true, false, ◌&&◌, ◌||◌, cond, List, [], ◌∷◌, length, Option, Some, None, Ok, Err, Result, arith, ℤ, pos, negsuc, ◌+ℤ◌}
-use Rattle.std.specs.Prelude.{slice_get, slice_set, nat_le, nat_lt, IsSome, if◌then◌else◌}
+use Rattle.std.proofs.Common.{◌≡◌, refl, sym, ap, subst, ◌∙◌, ℕ, zero, suc, ◌<◌, ◌^◌, Bool, true, false, List, [], ◌∷◌, length, Option, Some, None, Ok, Err, arith, ℤ, pos, negsuc, ◌+ℤ◌}
+use Rattle.std.specs.Prelude.{slice_get, slice_set, nat_le, nat_lt, IsSome}
 use Rattle.std.specs.Str.{bytes_eq}
 use Rattle.std.proofs.lemmas.Bool.{leb-true, ltb-true}
 use Rattle.std.proofs.lemmas.Slice.Eq.{bytes_eq-Decides}
@@ -22,11 +22,10 @@ use Rattle.cv_meaning.specs.declared.memory.Permit.{Permit}
 use Rattle.cv_meaning.specs.declared.memory.Ptr.{Ptr}
 use Rattle.cv_meaning.specs.declared.memory.Ptr.TheVariants.{Null, Wild, At}
 use Rattle.cv_meaning.specs.declared.memory.Value.{Value}
-use Rattle.cv_meaning.specs.declared.memory.Value.TheVariants as value
 use Rattle.cv_meaning.specs.Checked.{Checked, ◌>>=◌, unless}
 use Rattle.cv_meaning.specs.Contract.{Env}
-use Rattle.cv_meaning.specs.Memory.{IsShort, Memory, Place, bytes_of, cell_at, cell_held, cell_in, cell_of, get, is_inside, is_no_literal, may_change, place, place_at, put, shift, store, with_body, within, writable}
-use Rattle.cv_meaning.specs.State.{State, any_value, as_kind, operand_value, pointer, set}
+use Rattle.cv_meaning.specs.Memory.{IsShort, Memory, Place, bytes_of, cell_held, cell_in, cell_of, get, is_inside, is_no_literal, may_change, place, place_at, put, shift, store, with_body, within, writable}
+use Rattle.cv_meaning.specs.State.{any_value, as_kind, operand_value, pointer, set}
 use Rattle.cv_interp.proofs.Memories.{IsObject, put_keeps, put_memory, set_length}
 use Rattle.cv_interp.specs.Sound.{Fits, IsFit, IsMemory, Keeps, PointsToCell, is_cell_kind}
 use Rattle.cv_interp.specs.Takes.{IsNear, IsNearPtr}

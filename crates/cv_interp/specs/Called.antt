@@ -1,14 +1,10 @@
 -- What a call of the code leads to, as a turn of the meaning.
-use Rattle.std.specs.Prelude.{ℕ, suc, ◌≡◌, Bool, true, false, ℤ, pos, ◌-ℤ◌, List, [], ◌∷◌, map, Option, Some, None, Result, Ok, Err}
-use Rattle.std.specs.Option.{option_map}
+use Rattle.std.specs.Prelude.{ℕ, suc, ◌≡◌, Bool, true, false, ℤ, pos, ◌-ℤ◌, List, [], ◌∷◌, Option, Some, None}
 use Rattle.cv_core.specs.Names.{Name}
-use Rattle.cv_core.specs.declared.program.Program.{Program}
 use Rattle.cv_core.specs.declared.program.Proc.{Proc}
-use Rattle.cv_meaning.specs.declared.memory.Value.{Value}
 use Rattle.cv_meaning.specs.Call.{Turn, Errs, Goes, Enters}
 use Rattle.cv_interp.specs.declared.calls.Called.{Called}
 use Rattle.cv_interp.specs.declared.calls.Called.TheVariants as called
-use Rattle.cv_interp.specs.declared.calls.Site.{Site}
 use Rattle.cv_interp.specs.declared.store.Activation.{Activation}
 use Rattle.cv_interp.specs.declared.store.Store.{Store}
 use Rattle.cv_interp.specs.Entered.{IsRoom}

@@ -1,7 +1,5 @@
 -- A procedure that is to be entered.
-use Rattle.std.specs.Prelude.{ℕ, ◌≡◌, ◌+◌, ◌≤◌, ◌^◌, Bool, true, List, [], ◌∷◌, ◌++◌, length, Option, Some, None}
-use Rattle.cv_core.specs.Names.{Name, locals_of}
-use Rattle.cv_core.specs.declared.program.Program.{Program}
+use Rattle.std.specs.Prelude.{ℕ, ◌≡◌, ◌≤◌, ◌^◌, true, List, [], ◌∷◌, length}
 use Rattle.cv_core.specs.declared.program.Proc.{Proc}
 use Rattle.cv_core.specs.declared.program.Formal.{Formal}
 use Rattle.cv_core.specs.declared.program.Local.{Local}
@@ -9,10 +7,9 @@ use Rattle.cv_meaning.specs.declared.memory.NamedValue.{NamedValue}
 use Rattle.cv_meaning.specs.declared.memory.Value.{Value}
 use Rattle.cv_meaning.specs.declared.memory.Value.TheVariants as value
 use Rattle.cv_meaning.specs.declared.memory.Ptr.TheVariants.{Wild}
-use Rattle.cv_meaning.specs.declared.memory.World.{World}
 use Rattle.cv_meaning.specs.Look.{look}
 use Rattle.cv_meaning.specs.Memory.{Memory}
-use Rattle.cv_meaning.specs.State.{Frame, State}
+use Rattle.cv_meaning.specs.State.{Frame}
 use Rattle.cv_interp.specs.declared.entering.Guest.{Guest}
 use Rattle.cv_interp.specs.declared.store.Room.{Room}
 use Rattle.cv_interp.specs.Slots.{is_variable, slot_names}

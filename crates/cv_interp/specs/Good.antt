@@ -1,5 +1,5 @@
 -- What holds of a machine at each moment, and what a step leads to.
-use Rattle.std.specs.Prelude.{ℕ, ◌≡◌, ◌+◌, ◌≤◌, ◌^◌, Bool, true, false, List, All, length, slice_get, Option, Some, None}
+use Rattle.std.specs.Prelude.{ℕ, ◌≡◌, ◌+◌, ◌≤◌, ◌^◌, Bool, true, false, All, length, slice_get, Some, None}
 use Rattle.cv_core.specs.Grammar.{IsWritten}
 use Rattle.cv_core.specs.Limits.{first_limit}
 use Rattle.cv_core.specs.Names.{stmts_of}

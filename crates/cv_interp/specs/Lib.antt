@@ -1,4 +1,5 @@
 pub mod Slots
+pub mod Plans
 pub mod Level
 pub mod Machine
 pub mod Start

@@ -1,6 +1,5 @@
 -- What the code's own types stand for.
 use Rattle.std.specs.Prelude.{ℕ, List, drop}
-use Rattle.cv_core.specs.declared.program.Program.{Program}
 use Rattle.cv_core.specs.declared.program.Proc.{Proc}
 use Rattle.cv_meaning.specs.declared.memory.World.{World}
 use Rattle.cv_meaning.specs.Look.{look}

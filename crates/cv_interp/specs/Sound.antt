@@ -1,5 +1,5 @@
 -- States in which each variable that points to cells points to cells, and offsets are ints.
-use Rattle.std.specs.Prelude.{ℕ, ◌+◌, ◌≡◌, Bool, true, false, Option, Some, None, IsSome}
+use Rattle.std.specs.Prelude.{ℕ, ◌+◌, ◌≡◌, Bool, true, false, Some, IsSome}
 use Rattle.cv_core.specs.Names.{Name, kind_of, objects_of}
 use Rattle.cv_core.specs.declared.program.Program.{Program}
 use Rattle.cv_core.specs.declared.program.Proc.{Proc}

@@ -1,7 +1,7 @@
 -- Where a run of main begins: the values of its formals, and the memory.
-use Rattle.std.specs.Prelude.{ℕ, zero, suc, ◌+◌, ◌≤◌, ◌≡◌, Bool, true, false, ◌&&◌, List, [], ◌∷◌, ◌++◌, length, replicate, slice_get, Option, Some, None, ℤ, pos, codes}
+use Rattle.std.specs.Prelude.{ℕ, ◌+◌, ◌≤◌, ◌≡◌, Bool, true, false, ◌&&◌, List, [], ◌∷◌, ◌++◌, length, replicate, slice_get, Option, Some, None, pos, codes}
 use Rattle.std.specs.Option.{option_and_then}
-use Rattle.cv_core.specs.Names.{Name, place_of}
+use Rattle.cv_core.specs.Names.{place_of}
 use Rattle.cv_core.specs.declared.program.Program.{Program}
 use Rattle.cv_core.specs.declared.program.Proc.{Proc}
 use Rattle.cv_core.specs.declared.program.GlobalDecl.{GlobalDecl}
@@ -12,7 +12,6 @@ use Rattle.cv_core.specs.declared.program.VarKind.{VarKind}
 use Rattle.cv_core.specs.declared.program.VarKind.TheVariants as kind
 use Rattle.cv_meaning.specs.declared.ends.Arg.{Arg}
 use Rattle.cv_meaning.specs.declared.ends.Arg.TheVariants as arg
-use Rattle.cv_meaning.specs.declared.memory.Object.{Object}
 use Rattle.cv_meaning.specs.declared.memory.Body.{Body}
 use Rattle.cv_meaning.specs.declared.memory.Body.TheVariants.{Buffer, Cell}
 use Rattle.cv_meaning.specs.declared.memory.Ptr.TheVariants.{Null, At}

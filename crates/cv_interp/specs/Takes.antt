@@ -1,5 +1,5 @@
 -- What a step of the code does, and what it needs.
-use Rattle.std.specs.Prelude.{ℕ, ◌≡◌, ◌<◌, ◌≤◌, ◌^◌, ◌+◌, length, Option, Some, None, Result, Ok, Err, IsSome, ℤ, pos, ◌≤ℤ◌}
+use Rattle.std.specs.Prelude.{ℕ, ◌≡◌, ◌<◌, ◌^◌, ◌+◌, length, Result, Ok, Err, IsSome, pos, ◌≤ℤ◌}
 use Rattle.cv_core.specs.Names.{Name, locals_of}
 use Rattle.cv_core.specs.declared.faults.ErrKind.{ErrKind}
 use Rattle.cv_core.specs.declared.program.Program.{Program}
@@ -9,7 +9,6 @@ use Rattle.cv_core.specs.declared.program.Form.TheVariants as form
 use Rattle.cv_meaning.specs.declared.memory.Ptr.{Ptr}
 use Rattle.cv_meaning.specs.declared.memory.Ptr.TheVariants.{Null, Wild, At}
 use Rattle.cv_meaning.specs.declared.memory.Value.{Value}
-use Rattle.cv_meaning.specs.declared.memory.Value.TheVariants as value
 use Rattle.cv_meaning.specs.Contract.{Env}
 use Rattle.cv_meaning.specs.Memory.{Memory}
 use Rattle.cv_meaning.specs.State.{pointer}
@@ -18,7 +17,7 @@ use Rattle.cv_interp.specs.declared.store.Activation.{Activation}
 use Rattle.cv_interp.specs.declared.store.Store.{Store}
 use Rattle.cv_interp.specs.Cells.{IsCellIfLive}
 use Rattle.cv_interp.specs.Seen.{frame, state}
-use Rattle.cv_interp.specs.Slots.{env_of, slot_names, slot_of}
+use Rattle.cv_interp.specs.Slots.{slot_names, slot_of}
 
 -- a value for each slot
 abbrev pub IsWhole : Proc → Store → Type 0

@@ -9,13 +9,14 @@ ghost use Rattle.cv_meaning.specs.State.{make_locals as make_locals_in};
 ghost use Rattle.cv_meaning.specs.declared.memory.Body.TheVariants.{Buffer};
 ghost use Rattle.cv_interp.specs.Entered.{IsRoom};
 ghost use Rattle.cv_interp.specs.Made.{IsMade};
+ghost use Rattle.cv_interp.specs.Plans.{slot_at as slot_at_of};
 ghost use Rattle.cv_interp.specs.Seen.{state_in};
 ghost use Rattle.cv_interp.specs.Start.{HasFewBytes, IsMain, arg_values, fit as fit_in, fits_kind as fits_kind_in, global_body as global_body_in, global_objects, out_objects, start_memory, start_values};
 
-use crate::calls::proc_place;
 use crate::entering::{furnished, make};
+use crate::plan::proc_place;
 use crate::sites::local_site;
-use crate::store::{Room, Taken};
+use crate::store::{Room, Slot, Taken};
 use cv_core::{Bytes, Formal, GlobalBody, GlobalDecl, List, Literal, Proc, Program, VarKind};
 use cv_meaning::{Arg, Body, Mem, NamedValue, Ptr, Value, World};
 use std::alloc::{AllocError, Global};
@@ -250,11 +251,13 @@ pub(crate) fn first_room(
     p: &Program,
     number: u32,
     main: &Proc,
+    slots: &[Slot],
     formals: &List<NamedValue>,
     memory: &Mem,
     count: u64,
     w: &World,
 ) -> Result<Room, AllocError>
+    requires slots { slots.now ≡ map (λ l. slot_at_of main.now l.name) (locals_in main.now.body) }
     requires names { map (λ n. n.name) formals.now ≡ map (λ f. f.name) main.now.formals }
     requires count { count ≡ length memory.now }
     requires few { count ≤ 2 ^ 62 }
@@ -270,5 +273,7 @@ pub(crate) fn first_room(
         allocations: 0,
         answers: 0,
     };
-    furnished(alloc, p, main, site, formals, memory, count, w, taken)
+    furnished(
+        alloc, p, main, slots, site, formals, memory, count, w, taken,
+    )
 }

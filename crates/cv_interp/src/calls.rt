@@ -1,5 +1,5 @@
 //! One step of a call.
-ghost use Rattle.std.specs.Prelude.{IfSome, IsSome, false, ◌≡◌, ◌+◌, ◌<◌, ◌≤◌, ◌^◌, ℕ, Err, IfOk, List, None, OnErr, OnOk, Ok, Some, length, map, pos, slice_get};
+ghost use Rattle.std.specs.Prelude.{IfSome, IsSome, false, ◌≡◌, ◌++◌, ◌+◌, ◌<◌, ◌≤◌, ◌^◌, ℕ, Err, IfOk, List, None, OnErr, OnOk, Ok, Some, length, map, pos, slice_get};
 ghost use Rattle.std.specs.List.{list_all};
 ghost use Rattle.cv_core.specs.Limits.{first_limit};
 ghost use Rattle.cv_core.specs.Names.{locals_of as locals_in, local_site as local_site_of, malloc_site as malloc_site_of, place_of, stmts_of as stmts_in};
@@ -12,6 +12,7 @@ ghost use Rattle.cv_meaning.specs.declared.memory.World.{World as WorldValue};
 ghost use Rattle.cv_interp.specs.Called.{IsCalled, IsInto, IsSame, bound_by, lone_or_zero};
 ghost use Rattle.cv_interp.specs.Entered.{IsRoom, arrived};
 ghost use Rattle.cv_interp.specs.Good.{IsActive};
+ghost use Rattle.cv_interp.specs.Plans.{any_slot as any_slot_of, line_of as line_as, plans_of as plans_as, slot_at as slot_at_of, slot_if as slot_if_of};
 ghost use Rattle.cv_interp.specs.Seen.{frame, left, state, state_in};
 ghost use Rattle.cv_interp.specs.Slots.{env_of};
 
@@ -19,9 +20,9 @@ use crate::cells::may_change;
 use crate::entering::{Guest, furnished, guest_of, make_buffer, may_enter};
 use crate::sites::{local_site, malloc_site};
 use crate::slots::{any_value, assign_value, low_byte, number};
-use crate::store::{Activation, Room, Store};
+use crate::store::{Activation, Line, Plan, Room, Slot, Store};
 use crate::world::{after_allocation, after_answer, after_byte, allocation, answer_in, byte_read};
-use cv_core::{AnyOperand, Atom, Bytes, ErrKind, LinPart, List, Proc, Program};
+use cv_core::{AnyOperand, Atom, Bytes, ErrKind, Form, LinPart, List, Proc, Program};
 use cv_meaning::{Permit, Ptr, Value};
 use std::alloc::{AllocError, Global};
 use std::mem;
@@ -31,9 +32,11 @@ pub(crate) fn give(
     p: &Program,
     f: &Proc,
     into: &Option<Bytes>,
+    at: Slot,
     answer: Option<Value>,
     room: &mut Room,
 )
+    requires at { at ≡ slot_if_of f.now into.now }
     requires slot { IsInto f.now into.now }
     requires room { IsRoom f.now room.old }
     ensures state { (g : Frame) (w : WorldValue) (out : List ℕ) → g.proc ≡ f.now → state_in f.now w out room.new ≡ give_in p.now g into.now answer (state_in f.now w out room.old) }
@@ -43,7 +46,7 @@ pub(crate) fn give(
         None => {}
         Some(x) => match answer {
             None => {}
-            Some(v) => assign_value(p, f, &mut room.vars, x.as_slice(), v),
+            Some(v) => assign_value(p, f, &mut room.vars, x.as_slice(), at, v),
         },
     }
 }
@@ -68,6 +71,7 @@ pub(crate) enum Called<'a> {
 pub(crate) struct Site<'b> {
     pub(crate) k: usize,
     pub(crate) into: &'b Option<Bytes>,
+    pub(crate) at: Slot,
     pub(crate) args: &'b [Value],
     /// The first of the arguments as a number; 0 where there is none.
     pub(crate) first: i32,
@@ -84,12 +88,13 @@ fn first_number(args: &[Value]) -> i32
 
 /// Gives an answer to the destination of the call that runs.
 fn given(p: &Program, a: &Activation, site: &Site, v: Value, s: &mut Store)
+    requires at { site.now.at ≡ slot_if_of a.now.proc.now site.now.into.now }
     requires slot { IsInto a.now.proc.now site.now.into.now }
     requires room { IsRoom a.now.proc.now s.old.room }
     ensures state { state a.now.proc.now s.new ≡ give_in p.now (frame a.now) site.now.into.now (Some v) (state a.now.proc.now s.old) }
     ensures room { IsRoom a.now.proc.now s.new.room }
 {
-    give(p, a.proc, site.into, Some(v), &mut s.room);
+    give(p, a.proc, site.into, site.at, Some(v), &mut s.room);
 }
 
 fn malloc<'a>(
@@ -99,6 +104,7 @@ fn malloc<'a>(
     site: &Site,
     s: &mut Store,
 ) -> Result<Called<'a>, AllocError>
+    requires at { site.now.at ≡ slot_if_of a.now.proc.now site.now.into.now }
     requires slot { IsInto a.now.proc.now site.now.into.now }
     requires room { IsRoom a.now.proc.now s.old.room }
     requires active { IsActive p.now a.now }
@@ -126,6 +132,7 @@ fn malloc<'a>(
 }
 
 fn getchar<'a>(p: &Program, a: &Activation, site: &Site, s: &mut Store) -> Called<'a>
+    requires at { site.now.at ≡ slot_if_of a.now.proc.now site.now.into.now }
     requires slot { IsInto a.now.proc.now site.now.into.now }
     requires room { IsRoom a.now.proc.now s.old.room }
     ensures { IsCalled a.now site.now.k (getchar_in p.now (frame a.now) site.now.k site.now.into.now (state a.now.proc.now s.old)) s.old result s.new }
@@ -142,6 +149,7 @@ fn putchar<'a>(
     site: &Site,
     s: &mut Store,
 ) -> Result<Called<'a>, AllocError>
+    requires at { site.now.at ≡ slot_if_of a.now.proc.now site.now.into.now }
     requires slot { IsInto a.now.proc.now site.now.into.now }
     requires room { IsRoom a.now.proc.now s.old.room }
     ensures ok { IfOk result (λ c. IsCalled a.now site.now.k (putchar_in p.now site.now.first (frame a.now) site.now.k site.now.into.now (state a.now.proc.now s.old)) s.old c s.new) }
@@ -255,6 +263,7 @@ fn asked<'a>(
     guest: &Guest,
     s: &mut Store,
 ) -> Result<Called<'a>, AllocError>
+    requires at { site.now.at ≡ slot_if_of a.now.proc.now site.now.into.now }
     requires slot { IsInto a.now.proc.now site.now.into.now }
     requires room { IsRoom a.now.proc.now s.old.room }
     requires outside { breaks_extern g.now ≡ false }
@@ -276,11 +285,13 @@ fn make_entered<'a>(
     p: &Program,
     number: u32,
     g: &'a Proc,
+    slots: &[Slot],
     guest: Guest,
     a: &Activation,
     place: &Site,
     s: &mut Store,
 ) -> Result<Called<'a>, AllocError>
+    requires slots { slots.now ≡ map (λ l. slot_at_of g.now l.name) (locals_in g.now.body) }
     requires room { IsRoom a.now.proc.now s.old.room }
     requires names { map (λ n. n.name) guest.formals ≡ map (λ f. f.name) g.now.formals }
     requires body { IsSome g.now.body }
@@ -294,6 +305,7 @@ fn make_entered<'a>(
         alloc,
         p,
         g,
+        slots,
         site,
         &guest.formals,
         &s.room.memory,
@@ -321,8 +333,11 @@ fn call_proc<'a>(
     site: &Site,
     number: u32,
     g: &'a Proc,
+    slots: &[Slot],
     s: &mut Store,
 ) -> Result<Called<'a>, AllocError>
+    requires slots { slots.now ≡ map (λ l. slot_at_of g.now l.name) (locals_in g.now.body) }
+    requires at { site.now.at ≡ slot_if_of a.now.proc.now site.now.into.now }
     requires slot { IsInto a.now.proc.now site.now.into.now }
     requires room { IsRoom a.now.proc.now s.old.room }
     requires there { slice_get p.now.procs number ≡ Some g.now }
@@ -339,43 +354,64 @@ fn call_proc<'a>(
         Err(kind) => Ok(Called::Errs(kind)),
         Ok(()) => match g.body {
             None => asked(p, a, site, g, &guest, s),
-            Some(_) => make_entered(alloc, p, number, g, guest, a, site, s),
+            Some(_) => make_entered(alloc, p, number, g, slots, guest, a, site, s),
         },
     }
 }
 
-pub(crate) fn proc_place(procs: &[Proc], x: &[u8]) -> Option<usize>
-    ensures place { result ≡ place_of (λ g. g.name) x.now procs.now }
-    ensures within { IfSome result (λ i. i < length procs.now) }
-{
-    procs.iter().position(|g| g.name.as_slice() == x)
-}
-
+/// A call of a procedure that is none of those of the language.
 fn call_named<'a>(
     alloc: Global,
     p: &'a Program,
     a: &Activation,
     site: &Site,
-    x: &[u8],
+    plans: &List<Plan>,
+    callee: Option<usize>,
     s: &mut Store,
 ) -> Result<Called<'a>, AllocError>
+    requires plans { plans.now ≡ plans_as p.now }
+    requires within { IfSome callee (λ i. i < length p.now.procs) }
+    requires at { site.now.at ≡ slot_if_of a.now.proc.now site.now.into.now }
     requires slot { IsInto a.now.proc.now site.now.into.now }
     requires room { IsRoom a.now.proc.now s.old.room }
     requires sound { IsSoundProgram p.now }
     requires limits { first_limit p.now ≡ None }
-    ensures ok { IfOk result (λ c. IsCalled a.now site.now.k (call_named_in p.now (frame a.now) site.now.k site.now.into.now (place_of (λ h. h.name) x.now p.now.procs) site.now.args.now (state a.now.proc.now s.old)) s.old c s.new) }
+    ensures ok { IfOk result (λ c. IsCalled a.now site.now.k (call_named_in p.now (frame a.now) site.now.k site.now.into.now callee site.now.args.now (state a.now.proc.now s.old)) s.old c s.new) }
     ensures err { OnErr result (IsSame s.old s.new) }
 {
-    let Some(i) = proc_place(p.procs.as_slice(), x) else {
+    let Some(i) = callee else {
         return Ok(Called::Goes);
     };
-    let Some(g) = p.procs.get(i) else {
-        return Ok(Called::Goes);
-    };
+    let g = &p.procs.as_slice()[i];
+    let plan = &plans.as_slice()[i];
     let Ok(number) = u32::try_from(i) else {
         return Err(AllocError);
     };
-    call_proc(alloc, p, a, site, number, g, s)
+    call_proc(alloc, p, a, site, number, g, plan.locals.as_slice(), s)
+}
+
+/// Puts the values of the arguments behind others.
+#[tactic(auto, using(crate::proofs::Passed::more_values))]
+fn put_values(
+    a: &Activation,
+    s: &Store,
+    args: &[AnyOperand],
+    slots: &[Slot],
+    values: &mut Vec<Value>,
+) -> Result<(), AllocError>
+    requires { slots.now ≡ map (any_slot_of a.now.proc.now) args.now }
+    ensures { OnOk result (values.new.items ≡ values.old.items ++ map (any_value_in (env_of a.now.proc.now s.now.room.vars.items)) args.now) }
+{
+    match args {
+        [] => Ok(()),
+        [e, rest @ ..] => match slots {
+            [] => Ok(()),
+            [at, others @ ..] => {
+                values.push(any_value(a.proc, s.room.vars.as_slice(), e, *at))?;
+                put_values(a, s, rest, others, values)
+            }
+        },
+    }
 }
 
 fn values_of(
@@ -383,12 +419,14 @@ fn values_of(
     a: &Activation,
     s: &Store,
     args: &[AnyOperand],
+    slots: &[Slot],
 ) -> Result<Vec<Value>, AllocError>
+    requires { slots.now ≡ map (any_slot_of a.now.proc.now) args.now }
     ensures { IfOk result (λ vs. vs.items ≡ map (any_value_in (env_of a.now.proc.now s.now.room.vars.items)) args.now) }
 {
-    args.iter()
-        .map(|e| any_value(a.proc, s.room.vars.as_slice(), e))
-        .collect(alloc)
+    let mut values = Vec::with_capacity(alloc, args.len())?;
+    put_values(a, s, args, slots, &mut values)?;
+    Ok(values)
 }
 
 /// One step of a call; after want of memory nothing has changed.
@@ -399,10 +437,14 @@ pub(crate) fn call<'a>(
     a: &Activation,
     k: usize,
     into: &Option<Bytes>,
-    x: &[u8],
+    x: &Bytes,
     args: &List<AnyOperand>,
+    plans: &List<Plan>,
+    line: &Line,
     s: &mut Store,
 ) -> Result<Called<'a>, AllocError>
+    requires plans { plans.now ≡ plans_as p.now }
+    requires line { line.now ≡ line_as p.now a.now.proc.now (Form.Call into.now x.now args.now) }
     requires slot { IsInto a.now.proc.now into.now }
     requires room { IsRoom a.now.proc.now s.old.room }
     requires active { IsActive p.now a.now }
@@ -413,20 +455,22 @@ pub(crate) fn call<'a>(
     ensures err { OnErr result (IsSame s.old s.new) }
     ensures int { OnOk result ((n : ℕ) → first_number_in (map (any_value_in (env_of a.now.proc.now s.old.room.vars.items)) args.now) ≡ pos n → n < 2 ^ 31) }
 {
-    let values = values_of(alloc, a, s, args.as_slice())?;
+    let values = values_of(alloc, a, s, args.as_slice(), line.args.as_slice())?;
     let site = Site {
         k,
         into,
+        at: line.first,
         args: values.as_slice(),
         first: first_number(values.as_slice()),
     };
-    if x == b"malloc".as_slice() {
+    let name = x.as_slice();
+    if name == b"malloc".as_slice() {
         malloc(alloc, p, a, &site, s)
-    } else if x == b"getchar".as_slice() {
+    } else if name == b"getchar".as_slice() {
         Ok(getchar(p, a, &site, s))
-    } else if x == b"putchar".as_slice() {
+    } else if name == b"putchar".as_slice() {
         putchar(p, a, &site, s)
     } else {
-        call_named(alloc, p, a, &site, x, s)
+        call_named(alloc, p, a, &site, plans, line.callee, s)
     }
 }

@@ -7,6 +7,7 @@ ghost use Rattle.cv_meaning.specs.Look.{look};
 ghost use Rattle.cv_meaning.specs.Memory.{IsShort};
 ghost use Rattle.cv_meaning.specs.State.{fresh_bytes as fresh_bytes_in, make_local, make_locals as make_locals_in, next_site, spend, with_object};
 ghost use Rattle.cv_interp.specs.Entered.{AreVariables, IsRoom, arguments, arrived};
+ghost use Rattle.cv_interp.specs.Plans.{slot_at as slot_at_of};
 ghost use Rattle.cv_interp.specs.Seen.{left, state_in};
 ghost use Rattle.cv_interp.specs.Slots.{env_of, is_variable, slot_names, variables_of};
 ghost use Rattle.cv_interp.specs.Takes.{HasSlot};
@@ -14,7 +15,7 @@ ghost use Rattle.cv_meaning.specs.declared.memory.Body.TheVariants.{Buffer};
 
 use crate::items::item_objects;
 use crate::slots::{as_kind, locals_of, set_var};
-use crate::store::{Room, Taken};
+use crate::store::{Room, Slot, Taken};
 use crate::world::{fresh, fresh_bytes, spent};
 use cv_core::{Bytes, Formal, List, Local, LocalBody, Proc, Program, VarKind};
 use cv_meaning::{Body, Mem, NamedValue, Part, Permit, Ptr, Value, View, World, holds};
@@ -201,9 +202,11 @@ fn make_variable(
     w: &World,
     _site: u32,
     x: &[u8],
+    at: Slot,
     kind: VarKind,
     room: &mut Room,
 )
+    requires at { at ≡ slot_at_of g.now x.now }
     requires slot { HasSlot g.now x.now }
     requires room { IsRoom g.now room.old }
     ensures state { state_in g.now w.now [] room.new ≡ make_local p.now _site x.now (LocalBody.Var kind) (state_in g.now w.now [] room.old) }
@@ -211,17 +214,17 @@ fn make_variable(
 {
     match kind {
         VarKind::Int => {
-            set_var(g, &mut room.vars, x, Value::Int(fresh(w, room.taken)));
+            set_var(g, &mut room.vars, x, at, Value::Int(fresh(w, room.taken)));
             room.taken = spent(w, room.taken, 1);
         }
         VarKind::Char => {
             let v = as_kind(p, VarKind::Char, fresh(w, room.taken));
-            set_var(g, &mut room.vars, x, v);
+            set_var(g, &mut room.vars, x, at, v);
             room.taken = spent(w, room.taken, 1);
         }
-        VarKind::Ptr => set_var(g, &mut room.vars, x, Value::Ptr(Ptr::Wild)),
-        VarKind::Pptr => set_var(g, &mut room.vars, x, Value::Ptr(Ptr::Wild)),
-        VarKind::Iptr => set_var(g, &mut room.vars, x, Value::Ptr(Ptr::Wild)),
+        VarKind::Ptr => set_var(g, &mut room.vars, x, at, Value::Ptr(Ptr::Wild)),
+        VarKind::Pptr => set_var(g, &mut room.vars, x, at, Value::Ptr(Ptr::Wild)),
+        VarKind::Iptr => set_var(g, &mut room.vars, x, at, Value::Ptr(Ptr::Wild)),
     }
 }
 
@@ -294,8 +297,10 @@ fn make_one(
     w: &World,
     site: u32,
     l: &Local,
+    at: Slot,
     room: &mut Room,
 ) -> Result<u32, AllocError>
+    requires at { at ≡ slot_at_of g.now l.now.name }
     requires slot { is_variable l.now.body ≡ true → HasSlot g.now l.now.name }
     requires room { IsRoom g.now room.old }
     ensures next { IfOk result (λ next. next ≡ next_site site l.now.body) }
@@ -305,7 +310,7 @@ fn make_one(
     let x = l.name.as_slice();
     match l.body {
         LocalBody::Var(kind) => {
-            make_variable(p, g, w, site, x, kind, room);
+            make_variable(p, g, w, site, x, at, kind, room);
             Ok(site)
         }
         LocalBody::Buffer(size) => {
@@ -342,8 +347,10 @@ fn make_locals(
     w: &World,
     site: u32,
     locals: &[Local],
+    slots: &[Slot],
     room: &mut Room,
 ) -> Result<(), AllocError>
+    requires slots { slots.now ≡ map (λ l. slot_at_of g.now l.name) locals.now }
     requires variables { AreVariables g.now locals.now }
     requires room { IsRoom g.now room.old }
     ensures state { OnOk result (state_in g.now w.now [] room.new ≡ make_locals_in p.now site locals.now (state_in g.now w.now [] room.old)) }
@@ -351,10 +358,13 @@ fn make_locals(
 {
     match locals {
         [] => Ok(()),
-        [first, rest @ ..] => {
-            let next = make_one(alloc, p, g, w, site, first, room)?;
-            make_locals(alloc, p, g, w, next, rest, room)
-        }
+        [first, rest @ ..] => match slots {
+            [] => Ok(()),
+            [at, others @ ..] => {
+                let next = make_one(alloc, p, g, w, site, first, *at, room)?;
+                make_locals(alloc, p, g, w, next, rest, others, room)
+            }
+        },
     }
 }
 
@@ -363,6 +373,7 @@ pub(crate) fn furnished(
     alloc: Global,
     p: &Program,
     g: &Proc,
+    slots: &[Slot],
     site: u32,
     formals: &List<NamedValue>,
     memory: &Mem,
@@ -370,6 +381,7 @@ pub(crate) fn furnished(
     w: &World,
     taken: Taken,
 ) -> Result<Room, AllocError>
+    requires slots { slots.now ≡ map (λ l. slot_at_of g.now l.name) (locals_in g.now.body) }
     requires variables { AreVariables g.now (locals_in g.now.body) }
     requires names { map (λ n. n.name) formals.now ≡ map (λ f. f.name) g.now.formals }
     requires made { made ≡ length memory.now }
@@ -385,6 +397,6 @@ pub(crate) fn furnished(
         made,
         taken,
     };
-    make_locals(alloc, p, g, w, site, locals, &mut room)?;
+    make_locals(alloc, p, g, w, site, locals, slots, &mut room)?;
     Ok(room)
 }

@@ -9,6 +9,7 @@ mod items;
 mod leaving;
 mod machine;
 mod objects;
+mod plan;
 mod sites;
 mod slots;
 mod steps;

@@ -11,22 +11,24 @@ ghost use Rattle.cv_meaning.specs.declared.memory.World.{World as WorldValue};
 ghost use Rattle.cv_interp.specs.Called.{IsInto};
 ghost use Rattle.cv_interp.specs.Entered.{IsRoom, arrived};
 ghost use Rattle.cv_interp.specs.Machine.{answer_of as answer_in, at_call, end, end_behind, into_at, is_call, seen, turn_of as turn_at};
+ghost use Rattle.cv_interp.specs.Plans.{any_slot_if as any_slot_if_of, line_of as line_as, plans_of as plans_as, slot_at as slot_at_of, slot_if as slot_if_of};
 ghost use Rattle.cv_interp.specs.Seen.{state_in};
 ghost use Rattle.cv_interp.specs.Slots.{env_of};
 ghost use Rattle.cv_interp.specs.Takes.{IsNear};
 ghost use Rattle.cv_interp.specs.Good.{IsGood, Leads, ended_how, is_plain};
 ghost use Rattle.cv_interp.specs.Stack.{stack_of};
-ghost use Rattle.cv_core.specs.Names.{stmts_of as stmts_in};
+ghost use Rattle.cv_core.specs.Names.{locals_of as locals_in, stmts_of as stmts_in};
 ghost use Rattle.cv_interp.specs.Start.{HasFewBytes, IsMain, IsRefusal, are_mains, fit as fit_in, start_memory, start_values};
 
 use crate::begin::{Made, StartError, beginning, first_room, fit, main_of};
 use crate::calls::{Called, Entered, call, give};
 use crate::entering::{Guest, guest_of, may_enter};
 use crate::leaving::leave;
+use crate::plan::{line_at, plans_of};
 use crate::sites::stmts_of;
 use crate::slots::any_value;
 use crate::steps::step;
-use crate::store::{Activation, Room, Store, Waiting};
+use crate::store::{Activation, Line, Plan, Room, Slot, Store, Waiting};
 use cv_core::{AnyOperand, Bytes, ErrKind, Form, List, Proc, Program, Stmt};
 use cv_meaning::{Arg, Mem, RunEnd, Value, World};
 use std::alloc::{AllocError, Global};
@@ -67,6 +69,8 @@ pub(crate) struct Core<'a> {
 #[derive(Drop)]
 pub struct Machine<'a> {
     core: Core<'a>,
+    /// What the names of the program stand for.
+    plans: List<Plan>,
 }
 
 impl<'a> Model for Machine<'a> {
@@ -80,11 +84,13 @@ impl<'a> Model for Machine<'a> {
     ghost coded = { Prim.hlevel (codes, pointer.the_row.coded, term.the_row.coded) };
 
     ghost use Rattle.cv_interp.specs.Stack.{stack_of};
+    ghost use Rattle.std.specs.Prelude.{◌≡◌};
     ghost use Rattle.cv_interp.specs.Good.{IsGood};
+    ghost use Rattle.cv_interp.specs.Plans.{plans_of};
 
     ghost view = { λ m. stack_of m.core };
 
-    ghost invariant = { λ m. IsGood m.core };
+    ghost invariant = { λ m. IsGood m.core × (m.plans ≡ plans_of m.core.program.now) };
 }
 
 fn turn_of(end: Ended) -> Turn
@@ -129,12 +135,14 @@ fn fail(core: &mut Core, kind: ErrKind, line: u32) -> Turn
 }
 
 /// Takes a step that is no call and no return.
-fn go(core: &mut Core, stmt: &Stmt) -> Turn
+fn go(core: &mut Core, stmt: &Stmt, line: &Line) -> Turn
     requires good { IsGood core.old }
+    requires line { line.now ≡ line_as core.old.program.now core.old.running.proc.now stmt.now.form }
     requires on { core.old.ended ≡ None }
     requires at { slice_get (stmts_in core.old.running.proc.now.body) core.old.at ≡ Some stmt.now }
     requires plain { is_plain stmt.now.form ≡ true }
     ensures good { IsGood core.new }
+    ensures program { core.new.program ≡ core.old.program }
     ensures led { Leads (stack_of core.old) result (stack_of core.new) }
 {
     match step(
@@ -142,6 +150,7 @@ fn go(core: &mut Core, stmt: &Stmt) -> Turn
         &core.running,
         core.at,
         &stmt.form,
+        line,
         &mut core.store,
     ) {
         Err(kind) => fail(core, kind, stmt.line),
@@ -176,14 +185,19 @@ fn enter<'a>(core: &mut Core<'a>, entered: Entered<'a>)
 fn go_into(
     core: &mut Core,
     into: &Option<Bytes>,
-    f: &[u8],
+    f: &Bytes,
     args: &List<AnyOperand>,
-    line: u32,
+    number: u32,
+    plans: &List<Plan>,
+    line: &Line,
 ) -> Result<Turn, AllocError>
     requires good { IsGood core.old }
+    requires plans { plans.now ≡ plans_as core.old.program.now }
+    requires line { line.now ≡ line_as core.old.program.now core.old.running.proc.now (Form.Call into.now f.now args.now) }
     requires on { core.old.ended ≡ None }
-    requires at { slice_get (stmts_in core.old.running.proc.now.body) core.old.at ≡ Some (record { line = line; form = Form.Call into.now f.now args.now }) }
+    requires at { slice_get (stmts_in core.old.running.proc.now.body) core.old.at ≡ Some (record { line = number; form = Form.Call into.now f.now args.now }) }
     ensures good { IsGood core.new }
+    ensures program { core.new.program ≡ core.old.program }
     ensures led { IfOk result (λ t. Leads (stack_of core.old) t (stack_of core.new)) }
     ensures unchanged { OnErr result (stack_of core.new ≡ stack_of core.old) }
 {
@@ -196,9 +210,11 @@ fn go_into(
         into,
         f,
         args,
+        plans,
+        line,
         &mut core.store,
     )? {
-        Called::Errs(kind) => Ok(fail(core, kind, line)),
+        Called::Errs(kind) => Ok(fail(core, kind, number)),
         Called::Goes => {
             core.at += 1;
             Ok(Turn::On)
@@ -211,7 +227,8 @@ fn go_into(
 }
 
 /// Gives an answer to the destination of the call at a statement.
-fn give_at(p: &Program, f: &Proc, at: usize, answer: Option<Value>, room: &mut Room)
+fn give_at(p: &Program, f: &Proc, at: usize, line: &Line, answer: Option<Value>, room: &mut Room)
+    requires line { line.now.first ≡ slot_if_of f.now (into_at f.now at) }
     requires slot { IsInto f.now (into_at f.now at) }
     requires room { IsRoom f.now room.old }
     ensures state { (g : Frame) (w : WorldValue) (out : List ℕ) → g.proc ≡ f.now → state_in f.now w out room.new ≡ give_in p.now g (into_at f.now at) answer (state_in f.now w out room.old) }
@@ -220,18 +237,20 @@ fn give_at(p: &Program, f: &Proc, at: usize, answer: Option<Value>, room: &mut R
     match stmts_of(f).get(at) {
         None => {}
         Some(stmt) => match &stmt.form {
-            Form::Call { into, .. } => give(p, f, into, answer, room),
+            Form::Call { into, .. } => give(p, f, into, line.first, answer, room),
             _ => {}
         },
     }
 }
 
 /// Goes on in the procedure that waits, or ends the machine where none does.
-fn go_back(core: &mut Core, answer: Option<Value>) -> Turn
+fn go_back(core: &mut Core, answer: Option<Value>, plans: &List<Plan>) -> Turn
     requires good { IsGood core.old }
+    requires plans { plans.now ≡ plans_as core.old.program.now }
     requires on { core.old.ended ≡ None }
     requires near { IfSome answer IsNear }
     ensures good { IsGood core.new }
+    ensures program { core.new.program ≡ core.old.program }
     ensures turn { result ≡ turn_at (end_behind (stack_of core.old) answer 0).how }
     ensures stands { (n : ℕ) → end (stack_of core.new) n ≡ end_behind (stack_of core.old) answer n }
 {
@@ -253,6 +272,7 @@ fn go_back(core: &mut Core, answer: Option<Value>) -> Turn
                 core.program,
                 core.running.proc,
                 at,
+                line_at(plans, core.running.number, at),
                 answer,
                 &mut core.store.room,
             );
@@ -263,51 +283,71 @@ fn go_back(core: &mut Core, answer: Option<Value>) -> Turn
 }
 
 /// What a return of a procedure answers.
-fn answer_by(f: &Proc, vars: &[Value], e: &Option<AnyOperand>) -> Option<Value>
+fn answer_by(f: &Proc, vars: &[Value], e: &Option<AnyOperand>, at: Slot) -> Option<Value>
+    requires at { at ≡ any_slot_if_of f.now e.now }
     ensures { result ≡ option_map (any_value_in (env_of f.now vars.now)) e.now }
 {
     match e {
         None => None,
-        Some(e) => Some(any_value(f, vars, e)),
+        Some(e) => Some(any_value(f, vars, e, at)),
     }
 }
 
 /// Takes a step of a return.
-fn go_out(core: &mut Core, e: &Option<AnyOperand>, line: u32) -> Turn
+fn go_out(
+    core: &mut Core,
+    e: &Option<AnyOperand>,
+    number: u32,
+    plans: &List<Plan>,
+    line: &Line,
+) -> Turn
     requires good { IsGood core.old }
+    requires plans { plans.now ≡ plans_as core.old.program.now }
+    requires line { line.now ≡ line_as core.old.program.now core.old.running.proc.now (Form.Return e.now) }
     requires on { core.old.ended ≡ None }
-    requires at { slice_get (stmts_in core.old.running.proc.now.body) core.old.at ≡ Some (record { line = line; form = Form.Return e.now }) }
+    requires at { slice_get (stmts_in core.old.running.proc.now.body) core.old.at ≡ Some (record { line = number; form = Form.Return e.now }) }
     ensures good { IsGood core.new }
+    ensures program { core.new.program ≡ core.old.program }
     ensures led { Leads (stack_of core.old) result (stack_of core.new) }
 {
-    let answer = answer_by(core.running.proc, core.store.room.vars.as_slice(), e);
+    let answer = answer_by(
+        core.running.proc,
+        core.store.room.vars.as_slice(),
+        e,
+        line.first,
+    );
     match leave(core.program, &core.running, answer, &mut core.store) {
-        Err(kind) => fail(core, kind, line),
-        Ok(()) => go_back(core, answer),
+        Err(kind) => fail(core, kind, number),
+        Ok(()) => go_back(core, answer, plans),
     }
 }
 
 /// Takes a step of a statement.
-fn take_stmt(core: &mut Core, stmt: &Stmt) -> Result<Turn, AllocError>
+fn take_stmt(core: &mut Core, stmt: &Stmt, plans: &List<Plan>) -> Result<Turn, AllocError>
     requires good { IsGood core.old }
+    requires plans { plans.now ≡ plans_as core.old.program.now }
     requires on { core.old.ended ≡ None }
     requires at { slice_get (stmts_in core.old.running.proc.now.body) core.old.at ≡ Some stmt.now }
     ensures good { IsGood core.new }
+    ensures program { core.new.program ≡ core.old.program }
     ensures led { IfOk result (λ t. Leads (stack_of core.old) t (stack_of core.new)) }
     ensures unchanged { OnErr result (stack_of core.new ≡ stack_of core.old) }
     ensures steady { is_call stmt.now.form ≡ false → IsOk result }
 {
+    let line = line_at(plans, core.running.number, core.at);
     match &stmt.form {
-        Form::Call { into, f, args } => go_into(core, into, f.as_slice(), args, stmt.line),
-        Form::Return(e) => Ok(go_out(core, e, stmt.line)),
-        _ => Ok(go(core, stmt)),
+        Form::Call { into, f, args } => go_into(core, into, f, args, stmt.line, plans, line),
+        Form::Return(e) => Ok(go_out(core, e, stmt.line, plans, line)),
+        _ => Ok(go(core, stmt, line)),
     }
 }
 
 /// Takes a step.
-fn take(core: &mut Core) -> Result<Turn, AllocError>
-    requires { IsGood core.old }
+fn take(core: &mut Core, plans: &List<Plan>) -> Result<Turn, AllocError>
+    requires good { IsGood core.old }
+    requires plans { plans.now ≡ plans_as core.old.program.now }
     ensures good { IsGood core.new }
+    ensures program { core.new.program ≡ core.old.program }
     ensures led { IfOk result (λ t. Leads (stack_of core.old) t (stack_of core.new)) }
     ensures unchanged { OnErr result (stack_of core.new ≡ stack_of core.old) }
     ensures steady { at_call (stack_of core.old) ≡ false → IsOk result }
@@ -318,7 +358,7 @@ fn take(core: &mut Core) -> Result<Turn, AllocError>
     let proc: &Proc = core.running.proc;
     match stmts_of(proc).get(core.at) {
         None => Ok(Turn::On),
-        Some(stmt) => take_stmt(core, stmt),
+        Some(stmt) => take_stmt(core, stmt, plans),
     }
 }
 
@@ -344,9 +384,11 @@ fn first_core<'a>(
     program: &'a Program,
     number: u32,
     main: &'a Proc,
+    slots: &[Slot],
     args: &[Arg],
     world: World,
 ) -> Result<Core<'a>, AllocError>
+    requires slots { slots.now ≡ map (λ l. slot_at_of main.now l.name) (locals_in main.now.body) }
     requires well_formed { IsSoundProgram program.now }
     requires limits { first_limit program.now ≡ None }
     requires texts { All HasFewBytes args.now }
@@ -354,6 +396,7 @@ fn first_core<'a>(
     requires main { IsMain program.now number main.now }
     requires kinds { fit_in main.now.formals args.now ≡ true }
     ensures good { IfOk result (λ c. IsGood c) }
+    ensures program { IfOk result (λ c. c.program.now ≡ program.now) }
     ensures started { IfOk result (λ c. (n : ℕ) → end (stack_of c) n ≡ seen (run_main n program.now (start_values program.now args.now) (start_memory program.now args.now) world)) }
 {
     let mut values = List::new(alloc);
@@ -362,7 +405,7 @@ fn first_core<'a>(
     let ended = barred(program, number, main, &guest, &memory);
     let formals = &guest.formals;
     let room = first_room(
-        alloc, program, number, main, formals, &memory, count, &world,
+        alloc, program, number, main, slots, formals, &memory, count, &world,
     )?;
     let Guest { formals, permit } = guest;
     Ok(Core {
@@ -409,8 +452,10 @@ impl<'a> Machine<'a> {
         if !fit(main.formals.as_slice(), args) {
             return Err(StartError::Args);
         }
-        let core = first_core(alloc, program, number, main, args, world)?;
-        Ok(Machine { core })
+        let plans = plans_of(alloc, program)?;
+        let slots = plans.as_slice()[number as usize].locals.as_slice();
+        let core = first_core(alloc, program, number, main, slots, args, world)?;
+        Ok(Machine { core, plans })
     }
 
     /// Takes one step; an error is want of memory. After an end it gives the end again.
@@ -420,7 +465,7 @@ impl<'a> Machine<'a> {
         ensures unchanged { OnErr result (self.new ≡ self.old) }
         ensures steady { at_call self.old ≡ false → IsOk result }
     {
-        take(&mut self.core)
+        take(&mut self.core, &self.plans)
     }
 
     /// Takes at most so many steps; an error is want of memory, at a step that is then left untaken.

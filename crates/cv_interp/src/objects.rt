@@ -1,13 +1,11 @@
 //! Objects by name.
-ghost use Rattle.std.specs.Prelude.{◌≡◌, ◌<◌, ◌≤◌, IfSome, length};
+ghost use Rattle.std.specs.Prelude.{◌≡◌, ◌+◌, ◌<◌, ◌≤◌, ◌^◌, IfSome, length};
 ghost use Rattle.std.specs.List.{filter};
 ghost use Rattle.cv_core.specs.Names.{is_object as is_object_in, objects_of as objects_in, place_of};
-ghost use Rattle.cv_meaning.specs.State.{address as address_in};
-ghost use Rattle.cv_interp.specs.Seen.{frame};
-ghost use Rattle.cv_interp.specs.Takes.{IsSmall};
+ghost use Rattle.cv_interp.specs.Plans.{home_of as home_in, object_at as object_in, own_place};
 
 use crate::slots::locals_of;
-use crate::store::Activation;
+use crate::store::{Activation, Home};
 use cv_core::{GlobalDecl, Literal, Local, LocalBody, Proc, Program};
 
 fn is_object(body: LocalBody) -> bool
@@ -77,20 +75,30 @@ fn literal_place(literals: &[Literal], x: &[u8]) -> Option<usize>
     literals.iter().position(|l| l.name.as_slice() == x)
 }
 
-/// The object of a name: a local of the procedure, else a global, else a literal.
-pub(crate) fn address(p: &Program, a: &Activation, x: &[u8]) -> u64
-    requires room { IsSmall a.now }
+/// Where the object of a name is: a local of the procedure, else a global, else a literal.
+pub(crate) fn home_of(p: &Program, f: &Proc, x: &[u8]) -> Home
     requires globals { length p.now.globals ≤ 256 }
-    ensures { result ≡ address_in p.now (frame a.now) x.now }
+    ensures { result ≡ home_in p.now f.now x.now }
 {
-    match object_place(locals_of(a.proc), x) {
-        Some(i) => a.permit.first + i as u64,
+    match object_place(locals_of(f), x) {
+        Some(i) => Home::Own(i),
         None => match global_place(p.globals.as_slice(), x) {
-            Some(i) => i as u64,
+            Some(i) => Home::Shared(i as u64),
             None => match literal_place(p.literals.as_slice(), x) {
-                None => 0,
-                Some(i) => p.globals.len() as u64 + i as u64,
+                None => Home::Shared(0),
+                Some(i) => Home::Shared(p.globals.len() as u64 + i as u64),
             },
         },
+    }
+}
+
+/// The object of a home.
+pub(crate) fn object_at(a: &Activation, home: Home) -> u64
+    requires { a.now.permit.first + own_place home < 2 ^ 64 }
+    ensures { result ≡ object_in a.now.permit.first home }
+{
+    match home {
+        Home::Own(i) => a.permit.first + i as u64,
+        Home::Shared(object) => object,
     }
 }

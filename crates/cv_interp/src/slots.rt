@@ -3,8 +3,10 @@ ghost use Rattle.std.specs.Prelude.{◌≡◌, ◌<◌, map, length, pos, IfSome
 ghost use Rattle.cv_core.specs.Chars.{low_byte as low_byte_of, char_of as char_in};
 ghost use Rattle.cv_core.specs.Names.{kind_among as kind_in, kind_in_locals as kind_among_locals, kind_of as kind_of_name, kind_of_local as kind_of_body, locals_of as locals_in};
 ghost use Rattle.cv_meaning.specs.State.{any_value as any_value_in, as_kind as as_kind_of, number as number_in, operand_value as operand_value_in, pointer as pointer_in, set};
+ghost use Rattle.cv_interp.specs.Plans.{any_slot as any_slot_of, operand_slot as operand_slot_of, slot_at as slot_at_of};
 ghost use Rattle.cv_interp.specs.Slots.{env_of, held_as, is_variable as is_variable_in, slot_in, slot_names, slot_of as slot_of_name, variables_of};
 
+use crate::store::Slot;
 use cv_core::{AnyOperand, Formal, Local, LocalBody, Operand, Proc, Program, VarKind};
 use cv_meaning::{Ptr, Value};
 
@@ -74,12 +76,23 @@ fn slot_of(f: &Proc, x: &[u8]) -> Option<usize>
     }
 }
 
-/// What a variable holds; wild for a name that has no slot.
-#[tactic(auto, using(crate::proofs::Env::env_some, crate::proofs::Env::env_gone, crate::proofs::Env::env_none))]
-pub(crate) fn value_of(f: &Proc, vars: &[Value], x: &[u8]) -> Value
-    ensures { result ≡ env_of f.now vars.now x.now }
+/// Where a variable of the procedure is held, and its kind.
+pub(crate) fn slot_at(f: &Proc, x: &[u8]) -> Slot
+    ensures { result ≡ slot_at_of f.now x.now }
 {
-    match slot_of(f, x) {
+    Slot {
+        place: slot_of(f, x),
+        kind: kind_of(f, x),
+    }
+}
+
+/// What a variable of the procedure holds; wild for one that has no place.
+#[tactic(auto, using(crate::proofs::Env::env_some, crate::proofs::Env::env_gone, crate::proofs::Env::env_none))]
+pub(crate) fn value_of(_f: &Proc, vars: &[Value], _x: &[u8], at: Slot) -> Value
+    requires at { at ≡ slot_at_of _f.now _x.now }
+    ensures { result ≡ env_of _f.now vars.now _x.now }
+{
+    match at.place {
         None => Value::Ptr(Ptr::Wild),
         Some(i) => match vars.get(i) {
             None => Value::Ptr(Ptr::Wild),
@@ -88,17 +101,17 @@ pub(crate) fn value_of(f: &Proc, vars: &[Value], x: &[u8]) -> Value
     }
 }
 
-/// Puts a value into a variable.
-#[tactic(auto, using(crate::proofs::Env::env_set))]
-pub(crate) fn set_var(f: &Proc, vars: &mut Vec<Value>, x: &[u8], v: Value)
-    requires known { IsSome (slot_of_name f.now x.now) }
-    requires whole { length vars.old.items ≡ length (slot_names f.now) }
-    ensures set { env_of f.now vars.new.items ≡ set (env_of f.now vars.old.items) x.now v }
+/// Puts a value into a variable of the procedure.
+#[tactic(auto, using(crate::proofs::Env::env_set, crate::proofs::Env::slot_within))]
+pub(crate) fn set_var(_f: &Proc, vars: &mut Vec<Value>, _x: &[u8], at: Slot, v: Value)
+    requires at { at ≡ slot_at_of _f.now _x.now }
+    requires known { IsSome (slot_of_name _f.now _x.now) }
+    requires whole { length vars.old.items ≡ length (slot_names _f.now) }
+    ensures set { env_of _f.now vars.new.items ≡ set (env_of _f.now vars.old.items) _x.now v }
     ensures whole { length vars.new.items ≡ length vars.old.items }
 {
-    match slot_of(f, x) {
-        None => {}
-        Some(i) => vars[i] = v,
+    if let Some(i) = at.place {
+        vars[i] = v;
     }
 }
 
@@ -120,36 +133,40 @@ pub(crate) fn pointer(v: Value) -> Ptr
     }
 }
 
-pub(crate) fn operand_value(f: &Proc, vars: &[Value], e: &Operand) -> Value
+pub(crate) fn operand_value(f: &Proc, vars: &[Value], e: &Operand, at: Slot) -> Value
+    requires at { at ≡ operand_slot_of f.now e.now }
     ensures { result ≡ operand_value_in (env_of f.now vars.now) e.now }
 {
     match e {
-        Operand::Var(x) => value_of(f, vars, x.as_slice()),
+        Operand::Var(x) => value_of(f, vars, x.as_slice(), at),
         Operand::Number(z) => Value::Int(*z),
     }
 }
 
-pub(crate) fn any_value(f: &Proc, vars: &[Value], e: &AnyOperand) -> Value
+pub(crate) fn any_value(f: &Proc, vars: &[Value], e: &AnyOperand, at: Slot) -> Value
+    requires at { at ≡ any_slot_of f.now e.now }
     ensures { result ≡ any_value_in (env_of f.now vars.now) e.now }
 {
     match e {
-        AnyOperand::Operand(e) => operand_value(f, vars, e),
+        AnyOperand::Operand(e) => operand_value(f, vars, e, at),
         AnyOperand::Null => Value::Ptr(Ptr::Null),
     }
 }
 
 /// The number that an operand has.
-pub(crate) fn number_of(f: &Proc, vars: &[Value], e: &Operand) -> i32
+pub(crate) fn number_of(f: &Proc, vars: &[Value], e: &Operand, at: Slot) -> i32
+    requires at { at ≡ operand_slot_of f.now e.now }
     ensures { result ≡ number_in (operand_value_in (env_of f.now vars.now) e.now) }
 {
-    number(operand_value(f, vars, e))
+    number(operand_value(f, vars, e, at))
 }
 
 /// The pointer that a variable holds.
-pub(crate) fn pointer_of(f: &Proc, vars: &[Value], x: &[u8]) -> Ptr
+pub(crate) fn pointer_of(f: &Proc, vars: &[Value], x: &[u8], at: Slot) -> Ptr
+    requires at { at ≡ slot_at_of f.now x.now }
     ensures { result ≡ pointer_in (env_of f.now vars.now x.now) }
 {
-    pointer(value_of(f, vars, x))
+    pointer(value_of(f, vars, x, at))
 }
 
 /// A number modulo 256.
@@ -223,25 +240,34 @@ pub(crate) fn as_kind(p: &Program, kind: VarKind, z: i32) -> Value
 }
 
 /// Assigns a number to a variable.
-pub(crate) fn assign(p: &Program, f: &Proc, vars: &mut Vec<Value>, x: &[u8], z: i32)
+pub(crate) fn assign(p: &Program, f: &Proc, vars: &mut Vec<Value>, x: &[u8], at: Slot, z: i32)
+    requires at { at ≡ slot_at_of f.now x.now }
     requires known { IsSome (slot_of_name f.now x.now) }
     requires whole { length vars.old.items ≡ length (slot_names f.now) }
     ensures set { env_of f.now vars.new.items ≡ set (env_of f.now vars.old.items) x.now (as_kind_of p.now (kind_of_name f.now x.now) z) }
     ensures whole { length vars.new.items ≡ length vars.old.items }
 {
-    let v = as_kind(p, kind_of(f, x), z);
-    set_var(f, vars, x, v);
+    let v = as_kind(p, at.kind, z);
+    set_var(f, vars, x, at, v);
 }
 
 /// Assigns a number or a pointer to a variable.
-pub(crate) fn assign_value(p: &Program, f: &Proc, vars: &mut Vec<Value>, x: &[u8], v: Value)
+pub(crate) fn assign_value(
+    p: &Program,
+    f: &Proc,
+    vars: &mut Vec<Value>,
+    x: &[u8],
+    at: Slot,
+    v: Value,
+)
+    requires at { at ≡ slot_at_of f.now x.now }
     requires known { IsSome (slot_of_name f.now x.now) }
     requires whole { length vars.old.items ≡ length (slot_names f.now) }
     ensures set { env_of f.now vars.new.items ≡ set (env_of f.now vars.old.items) x.now (held_as p.now f.now x.now v) }
     ensures whole { length vars.new.items ≡ length vars.old.items }
 {
     match v {
-        Value::Int(z) => assign(p, f, vars, x, z),
-        Value::Ptr(_) => set_var(f, vars, x, v),
+        Value::Int(z) => assign(p, f, vars, x, at, z),
+        Value::Ptr(_) => set_var(f, vars, x, at, v),
     }
 }

@@ -1,26 +1,36 @@
 //! One step of a statement that is no call and no return.
 ghost use Rattle.std.specs.Prelude.{◌*ℤ◌, ◌≡◌, ◌+◌, ◌<◌, ◌^◌, ◌≤ℤ◌, Err, IfErr, IfOk, Ok, length, ◌≤◌, if◌then◌else◌, pos};
 ghost use Rattle.cv_meaning.specs.Contract.{compare as compare_of};
-ghost use Rattle.cv_meaning.specs.State.{address as address_in, assign as assign_in, with_var};
+ghost use Rattle.cv_meaning.specs.State.{assign as assign_in, with_var};
 ghost use Rattle.cv_meaning.specs.Step.{branch, branch_pointers, by_rel as by_rel_of, copied as copied_in, equal_pointers as equal_pointers_of, is_wild as is_wild_of, pointer_of as pointer_at, ranged as ranged_in, value_of as value_in};
 ghost use Rattle.cv_interp.specs.Cells.{IsCellIfLive};
+ghost use Rattle.cv_interp.specs.Plans.{line_of as line_as, object_at as object_in, operand_slot as operand_slot_of, own_place, slot_at as slot_at_of, slot_if as slot_if_of};
 ghost use Rattle.cv_interp.specs.Seen.{frame, state};
 ghost use Rattle.cv_interp.specs.Slots.{env_of};
 ghost use Rattle.cv_interp.specs.Takes.{HasSlot, IsKept, IsNearPtr, IsReady, IsSmall, IsWhole, Takes};
 
 use crate::cells::{diff, get, put};
-use crate::objects::address;
+use crate::objects::object_at;
 use crate::slots::{
     any_value, assign, low_byte, number, number_of, operand_value, pointer, pointer_of, set_var,
     value_of,
 };
-use crate::store::{Activation, Store};
+use crate::store::{Activation, Home, Line, Slot, Store};
 use crate::world::{fresh, spent};
 use cv_core::{AnyOperand, Bytes, ErrKind, Form, Operand, Proc, Program, Rel};
 use cv_meaning::{Ptr, Value, load, shift, store};
 
 /// Assigns a number.
-fn assigned(p: &Program, a: &Activation, k: usize, x: &Bytes, z: i32, s: &mut Store) -> usize
+fn assigned(
+    p: &Program,
+    a: &Activation,
+    k: usize,
+    x: &Bytes,
+    at: Slot,
+    z: i32,
+    s: &mut Store,
+) -> usize
+    requires at { at ≡ slot_at_of a.now.proc.now x.now }
     requires small { k + 1 < 2 ^ 64 }
     requires known { HasSlot a.now.proc.now x.now }
     requires whole { IsWhole a.now.proc.now s.old }
@@ -28,7 +38,7 @@ fn assigned(p: &Program, a: &Activation, k: usize, x: &Bytes, z: i32, s: &mut St
     ensures state { state a.now.proc.now s.new ≡ assign_in p.now (frame a.now) x.now z (state a.now.proc.now s.old) }
     ensures kept { IsKept s.old s.new }
 {
-    assign(p, a.proc, &mut s.room.vars, x.as_slice(), z);
+    assign(p, a.proc, &mut s.room.vars, x.as_slice(), at, z);
     k + 1
 }
 
@@ -38,9 +48,11 @@ fn ranged(
     a: &Activation,
     k: usize,
     x: &Bytes,
+    at: Slot,
     z: i64,
     s: &mut Store,
 ) -> Result<usize, ErrKind>
+    requires at { at ≡ slot_at_of a.now.proc.now x.now }
     requires small { k + 1 < 2 ^ 64 }
     requires known { HasSlot a.now.proc.now x.now }
     requires whole { IsWhole a.now.proc.now s.old }
@@ -50,32 +62,36 @@ fn ranged(
     if z < -2147483648 || z > 2147483647 {
         return Err(ErrKind::Range);
     }
-    Ok(assigned(p, a, k, x, z as i32, s))
+    Ok(assigned(p, a, k, x, at, z as i32, s))
 }
 
-fn number_in(a: &Activation, s: &Store, e: &Operand) -> i32
+fn number_in(a: &Activation, s: &Store, e: &Operand, at: Slot) -> i32
+    requires at { at ≡ operand_slot_of a.now.proc.now e.now }
     ensures { result ≡ value_in (state a.now.proc.now s.now) e.now }
 {
-    number_of(a.proc, s.room.vars.as_slice(), e)
+    number_of(a.proc, s.room.vars.as_slice(), e, at)
 }
 
-fn pointer_in(a: &Activation, s: &Store, x: &Bytes) -> Ptr
+fn pointer_in(a: &Activation, s: &Store, x: &Bytes, at: Slot) -> Ptr
+    requires at { at ≡ slot_at_of a.now.proc.now x.now }
     ensures { result ≡ pointer_at (state a.now.proc.now s.now) x.now }
 {
-    pointer_of(a.proc, s.room.vars.as_slice(), x.as_slice())
+    pointer_of(a.proc, s.room.vars.as_slice(), x.as_slice(), at)
 }
 
-fn copied(a: &Activation, s: &Store, q: &Option<Bytes>) -> Value
+fn copied(a: &Activation, s: &Store, q: &Option<Bytes>, at: Slot) -> Value
+    requires at { at ≡ slot_if_of a.now.proc.now q.now }
     ensures { result ≡ copied_in (state a.now.proc.now s.now) q.now }
 {
     match q {
         None => Value::Ptr(Ptr::Null),
-        Some(q) => value_of(a.proc, s.room.vars.as_slice(), q.as_slice()),
+        Some(q) => value_of(a.proc, s.room.vars.as_slice(), q.as_slice(), at),
     }
 }
 
 /// Puts a value into a variable.
-fn held(a: &Activation, k: usize, x: &Bytes, v: Value, s: &mut Store) -> usize
+fn held(a: &Activation, k: usize, x: &Bytes, at: Slot, v: Value, s: &mut Store) -> usize
+    requires at { at ≡ slot_at_of a.now.proc.now x.now }
     requires small { k + 1 < 2 ^ 64 }
     requires known { HasSlot a.now.proc.now x.now }
     requires whole { IsWhole a.now.proc.now s.old }
@@ -83,7 +99,7 @@ fn held(a: &Activation, k: usize, x: &Bytes, v: Value, s: &mut Store) -> usize
     ensures state { state a.now.proc.now s.new ≡ with_var x.now v (state a.now.proc.now s.old) }
     ensures kept { IsKept s.old s.new }
 {
-    set_var(a.proc, &mut s.room.vars, x.as_slice(), v);
+    set_var(a.proc, &mut s.room.vars, x.as_slice(), at, v);
     k + 1
 }
 
@@ -95,18 +111,20 @@ fn moved(
     x: &Bytes,
     q: &Bytes,
     e: &Operand,
+    line: &Line,
     s: &mut Store,
 ) -> Result<usize, ErrKind>
+    requires line { line.now ≡ line_as p.now a.now.proc.now (Form.Shift x.now q.now e.now) }
     requires small { k + 1 < 2 ^ 64 }
     requires known { HasSlot a.now.proc.now x.now }
     requires whole { IsWhole a.now.proc.now s.old }
     ensures { Takes p.now a.now k (Form.Shift x.now q.now e.now) s.old result s.new }
 {
-    let by = i64::from(number_in(a, s, e));
-    let from = pointer_in(a, s, q);
+    let by = i64::from(number_in(a, s, e, line.third));
+    let from = pointer_in(a, s, q, line.second);
     match shift(&s.room.memory, from, by) {
         Err(kind) => Err(kind),
-        Ok(r) => Ok(held(a, k, x, Value::Ptr(r), s)),
+        Ok(r) => Ok(held(a, k, x, line.first, Value::Ptr(r), s)),
     }
 }
 
@@ -117,17 +135,19 @@ fn loaded(
     k: usize,
     x: &Bytes,
     q: &Bytes,
+    line: &Line,
     s: &mut Store,
 ) -> Result<usize, ErrKind>
+    requires line { line.now ≡ line_as p.now a.now.proc.now (Form.Load x.now q.now) }
     requires small { k + 1 < 2 ^ 64 }
     requires known { HasSlot a.now.proc.now x.now }
     requires whole { IsWhole a.now.proc.now s.old }
     ensures { Takes p.now a.now k (Form.Load x.now q.now) s.old result s.new }
 {
-    let from = pointer_in(a, s, q);
+    let from = pointer_in(a, s, q, line.second);
     match load(&s.room.memory, from) {
         Err(kind) => Err(kind),
-        Ok(b) => Ok(assigned(p, a, k, x, i32::from(b), s)),
+        Ok(b) => Ok(assigned(p, a, k, x, line.first, i32::from(b), s)),
     }
 }
 
@@ -138,13 +158,15 @@ fn stored(
     k: usize,
     q: &Bytes,
     e: &Operand,
+    line: &Line,
     s: &mut Store,
 ) -> Result<usize, ErrKind>
+    requires line { line.now ≡ line_as p.now a.now.proc.now (Form.Store q.now e.now) }
     requires small { k + 1 < 2 ^ 64 }
     ensures { Takes p.now a.now k (Form.Store q.now e.now) s.old result s.new }
 {
-    let byte = low_byte(number_in(a, s, e));
-    let to = pointer_in(a, s, q);
+    let byte = low_byte(number_in(a, s, e, line.second));
+    let to = pointer_in(a, s, q, line.first);
     match store(&mut s.room.memory, to, byte, &a.permit) {
         Err(kind) => Err(kind),
         Ok(()) => Ok(k + 1),
@@ -158,18 +180,20 @@ fn got(
     k: usize,
     x: &Bytes,
     w: &Bytes,
+    line: &Line,
     s: &mut Store,
 ) -> Result<usize, ErrKind>
+    requires line { line.now ≡ line_as p.now a.now.proc.now (Form.Get x.now w.now) }
     requires small { k + 1 < 2 ^ 64 }
     requires known { HasSlot a.now.proc.now x.now }
     requires whole { IsWhole a.now.proc.now s.old }
     ensures { Takes p.now a.now k (Form.Get x.now w.now) s.old result s.new }
 {
-    let from = pointer_in(a, s, w);
+    let from = pointer_in(a, s, w, line.second);
     match get(&s.room.memory, from) {
         Err(kind) => Err(kind),
-        Ok(Value::Int(z)) => Ok(assigned(p, a, k, x, z, s)),
-        Ok(Value::Ptr(r)) => Ok(held(a, k, x, Value::Ptr(r), s)),
+        Ok(Value::Int(z)) => Ok(assigned(p, a, k, x, line.first, z, s)),
+        Ok(Value::Ptr(r)) => Ok(held(a, k, x, line.first, Value::Ptr(r), s)),
     }
 }
 
@@ -180,14 +204,16 @@ fn kept(
     k: usize,
     w: &Bytes,
     e: &AnyOperand,
+    line: &Line,
     s: &mut Store,
 ) -> Result<usize, ErrKind>
+    requires line { line.now ≡ line_as p.now a.now.proc.now (Form.Put w.now e.now) }
     requires small { k + 1 < 2 ^ 64 }
     requires cell { IsCellIfLive s.old.room.memory (pointer_at (state a.now.proc.now s.old) w.now) }
     ensures { Takes p.now a.now k (Form.Put w.now e.now) s.old result s.new }
 {
-    let v = any_value(a.proc, s.room.vars.as_slice(), e);
-    let to = pointer_in(a, s, w);
+    let v = any_value(a.proc, s.room.vars.as_slice(), e, line.second);
+    let to = pointer_in(a, s, w, line.first);
     match put(&mut s.room.memory, to, v, &a.permit) {
         Err(kind) => Err(kind),
         Ok(()) => Ok(k + 1),
@@ -202,8 +228,10 @@ fn apart(
     x: &Bytes,
     q: &Bytes,
     r: &Bytes,
+    line: &Line,
     s: &mut Store,
 ) -> Result<usize, ErrKind>
+    requires line { line.now ≡ line_as p.now a.now.proc.now (Form.Diff x.now q.now r.now) }
     requires small { k + 1 < 2 ^ 64 }
     requires known { HasSlot a.now.proc.now x.now }
     requires whole { IsWhole a.now.proc.now s.old }
@@ -211,11 +239,11 @@ fn apart(
     requires second { IsNearPtr (pointer_at (state a.now.proc.now s.old) r.now) }
     ensures { Takes p.now a.now k (Form.Diff x.now q.now r.now) s.old result s.new }
 {
-    let from = pointer_in(a, s, q);
-    let to = pointer_in(a, s, r);
+    let from = pointer_in(a, s, q, line.second);
+    let to = pointer_in(a, s, r, line.third);
     match diff(&s.room.memory, from, to) {
         Err(kind) => Err(kind),
-        Ok(z) => Ok(assigned(p, a, k, x, z, s)),
+        Ok(z) => Ok(assigned(p, a, k, x, line.first, z, s)),
     }
 }
 
@@ -309,12 +337,14 @@ fn tested(
     q: &Bytes,
     equal: bool,
     to: u32,
+    line: &Line,
     s: &mut Store,
 ) -> Result<usize, ErrKind>
-    requires { k + 1 < 2 ^ 64 }
+    requires line { line.now ≡ line_as p.now a.now.proc.now (Form.IfByte q.now equal to) }
+    requires small { k + 1 < 2 ^ 64 }
     ensures { Takes p.now a.now k (Form.IfByte q.now equal to) s.old result s.new }
 {
-    let from = pointer_in(a, s, q);
+    let from = pointer_in(a, s, q, line.first);
     match load(&s.room.memory, from) {
         Err(kind) => Err(kind),
         Ok(b) => {
@@ -324,14 +354,13 @@ fn tested(
     }
 }
 
-/// The pointer to an object of a name.
-fn named(p: &Program, a: &Activation, x: &Bytes) -> Value
-    requires room { IsSmall a.now }
-    requires globals { length p.now.globals ≤ 256 }
-    ensures { result ≡ Value.Ptr (Ptr.At (address_in p.now (frame a.now) x.now) 0) }
+/// The pointer to the first byte of an object.
+fn named(a: &Activation, home: Home) -> Value
+    requires { a.now.permit.first + own_place home < 2 ^ 64 }
+    ensures { result ≡ Value.Ptr (Ptr.At (object_in a.now.permit.first home) 0) }
 {
     Value::Ptr(Ptr::At {
-        object: address(p, a, x.as_slice()),
+        object: object_at(a, home),
         offset: 0,
     })
 }
@@ -345,15 +374,17 @@ fn added(
     x: &Bytes,
     d: &Operand,
     e: &Operand,
+    line: &Line,
     s: &mut Store,
 ) -> Result<usize, ErrKind>
+    requires line { line.now ≡ line_as p.now a.now.proc.now (Form.Sum x.now d.now e.now) }
     requires small { k + 1 < 2 ^ 64 }
     requires known { HasSlot a.now.proc.now x.now }
     requires whole { IsWhole a.now.proc.now s.old }
     ensures { Takes p.now a.now k (Form.Sum x.now d.now e.now) s.old result s.new }
 {
-    let z = i64::from(number_in(a, s, d)) + i64::from(number_in(a, s, e));
-    ranged(p, a, k, x, z, s)
+    let z = i64::from(number_in(a, s, d, line.second)) + i64::from(number_in(a, s, e, line.third));
+    ranged(p, a, k, x, line.first, z, s)
 }
 
 /// The exact difference of two operands.
@@ -365,15 +396,17 @@ fn taken_off(
     x: &Bytes,
     d: &Operand,
     e: &Operand,
+    line: &Line,
     s: &mut Store,
 ) -> Result<usize, ErrKind>
+    requires line { line.now ≡ line_as p.now a.now.proc.now (Form.Minus x.now d.now e.now) }
     requires small { k + 1 < 2 ^ 64 }
     requires known { HasSlot a.now.proc.now x.now }
     requires whole { IsWhole a.now.proc.now s.old }
     ensures { Takes p.now a.now k (Form.Minus x.now d.now e.now) s.old result s.new }
 {
-    let z = i64::from(number_in(a, s, d)) - i64::from(number_in(a, s, e));
-    ranged(p, a, k, x, z, s)
+    let z = i64::from(number_in(a, s, d, line.second)) - i64::from(number_in(a, s, e, line.third));
+    ranged(p, a, k, x, line.first, z, s)
 }
 
 fn product(a: i32, b: i32) -> i64
@@ -391,15 +424,17 @@ fn multiplied(
     x: &Bytes,
     by: i32,
     e: &Operand,
+    line: &Line,
     s: &mut Store,
 ) -> Result<usize, ErrKind>
+    requires line { line.now ≡ line_as p.now a.now.proc.now (Form.Product x.now by e.now) }
     requires small { k + 1 < 2 ^ 64 }
     requires known { HasSlot a.now.proc.now x.now }
     requires whole { IsWhole a.now.proc.now s.old }
     ensures { Takes p.now a.now k (Form.Product x.now by e.now) s.old result s.new }
 {
-    let z = product(by, number_in(a, s, e));
-    ranged(p, a, k, x, z, s)
+    let z = product(by, number_in(a, s, e, line.second));
+    ranged(p, a, k, x, line.first, z, s)
 }
 
 /// The quotient of an operand and a positive number.
@@ -411,16 +446,18 @@ fn divided(
     x: &Bytes,
     e: &Operand,
     by: i32,
+    line: &Line,
     s: &mut Store,
 ) -> usize
+    requires line { line.now ≡ line_as p.now a.now.proc.now (Form.Quotient x.now e.now by) }
     requires small { k + 1 < 2 ^ 64 }
     requires known { HasSlot a.now.proc.now x.now }
     requires whole { IsWhole a.now.proc.now s.old }
     requires positive { pos 1 ≤ℤ by }
     ensures { Takes p.now a.now k (Form.Quotient x.now e.now by) s.old (Ok result) s.new }
 {
-    let z = number_in(a, s, e) / by;
-    assigned(p, a, k, x, z, s)
+    let z = number_in(a, s, e, line.second) / by;
+    assigned(p, a, k, x, line.first, z, s)
 }
 
 /// The remainder of an operand by a positive number.
@@ -432,16 +469,18 @@ fn reduced(
     x: &Bytes,
     e: &Operand,
     by: i32,
+    line: &Line,
     s: &mut Store,
 ) -> usize
+    requires line { line.now ≡ line_as p.now a.now.proc.now (Form.Remainder x.now e.now by) }
     requires small { k + 1 < 2 ^ 64 }
     requires known { HasSlot a.now.proc.now x.now }
     requires whole { IsWhole a.now.proc.now s.old }
     requires positive { pos 1 ≤ℤ by }
     ensures { Takes p.now a.now k (Form.Remainder x.now e.now by) s.old (Ok result) s.new }
 {
-    let z = number_in(a, s, e) % by;
-    assigned(p, a, k, x, z, s)
+    let z = number_in(a, s, e, line.second) % by;
+    assigned(p, a, k, x, line.first, z, s)
 }
 
 /// One step of a statement that is no call and no return: the first error that applies, or the next statement.
@@ -451,8 +490,10 @@ pub(crate) fn step(
     a: &Activation,
     k: usize,
     form: &Form,
+    line: &Line,
     s: &mut Store,
 ) -> Result<usize, ErrKind>
+    requires line { line.now ≡ line_as p.now a.now.proc.now form.now }
     requires small { k + 1 < 2 ^ 64 }
     requires room { IsSmall a.now }
     requires globals { length p.now.globals ≤ 256 }
@@ -461,14 +502,17 @@ pub(crate) fn step(
     ensures { Takes p.now a.now k form.now s.old result s.new }
 {
     match form {
-        Form::CopyPtr { p: x, q } => Ok(held(a, k, x, copied(a, s, q), s)),
-        Form::Address { p: x, object } => Ok(held(a, k, x, named(p, a, object), s)),
-        Form::Shift { p: x, q, e } => moved(p, a, k, x, q, e, s),
-        Form::Load { x, p: q } => loaded(p, a, k, x, q, s),
-        Form::Store { p: q, e } => stored(p, a, k, q, e, s),
-        Form::Get { x, w } => got(p, a, k, x, w, s),
-        Form::Put { w, value } => kept(p, a, k, w, value, s),
-        Form::Diff { x, p: q, q: r } => apart(p, a, k, x, q, r, s),
+        Form::CopyPtr { p: x, q } => {
+            let v = copied(a, s, q, line.second);
+            Ok(held(a, k, x, line.first, v, s))
+        },
+        Form::Address { p: x, .. } => Ok(held(a, k, x, line.first, named(a, line.home), s)),
+        Form::Shift { p: x, q, e } => moved(p, a, k, x, q, e, line, s),
+        Form::Load { x, p: q } => loaded(p, a, k, x, q, line, s),
+        Form::Store { p: q, e } => stored(p, a, k, q, e, line, s),
+        Form::Get { x, w } => got(p, a, k, x, w, line, s),
+        Form::Put { w, value } => kept(p, a, k, w, value, line, s),
+        Form::Diff { x, p: q, q: r } => apart(p, a, k, x, q, r, line, s),
         Form::Goto(to) => Ok(*to as usize),
         Form::If {
             left,
@@ -476,17 +520,20 @@ pub(crate) fn step(
             right,
             to,
         } => {
-            let u = operand_value(a.proc, s.room.vars.as_slice(), left);
-            let v = any_value(a.proc, s.room.vars.as_slice(), right);
+            let u = operand_value(a.proc, s.room.vars.as_slice(), left, line.first);
+            let v = any_value(a.proc, s.room.vars.as_slice(), right, line.second);
             Ok(compared(a.proc, *rel, u, v, *to, k, s))
         }
-        Form::IfByte { p: q, equal, to } => tested(p, a, k, q, *equal, *to, s),
+        Form::IfByte { p: q, equal, to } => tested(p, a, k, q, *equal, *to, line, s),
         Form::Call { .. } | Form::Return(_) => Ok(k + 1),
-        Form::Assign { x, e } => Ok(assigned(p, a, k, x, number_in(a, s, e), s)),
-        Form::Sum { x, e, f } => added(p, a, k, x, e, f, s),
-        Form::Minus { x, e, f } => taken_off(p, a, k, x, e, f, s),
-        Form::Product { x, k: factor, e } => multiplied(p, a, k, x, *factor, e, s),
-        Form::Quotient { x, e, k: by } => Ok(divided(p, a, k, x, e, *by, s)),
-        Form::Remainder { x, e, k: by } => Ok(reduced(p, a, k, x, e, *by, s)),
+        Form::Assign { x, e } => {
+            let z = number_in(a, s, e, line.second);
+            Ok(assigned(p, a, k, x, line.first, z, s))
+        },
+        Form::Sum { x, e, f } => added(p, a, k, x, e, f, line, s),
+        Form::Minus { x, e, f } => taken_off(p, a, k, x, e, f, line, s),
+        Form::Product { x, k: factor, e } => multiplied(p, a, k, x, *factor, e, line, s),
+        Form::Quotient { x, e, k: by } => Ok(divided(p, a, k, x, e, *by, line, s)),
+        Form::Remainder { x, e, k: by } => Ok(reduced(p, a, k, x, e, *by, line, s)),
     }
 }

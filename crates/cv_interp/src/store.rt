@@ -1,6 +1,42 @@
 //! What a machine works on.
-use cv_core::{List, Proc};
+use cv_core::{List, Proc, VarKind};
 use cv_meaning::{Mem, NamedValue, Permit, Value, World};
+
+/// Where the variable of a name is held, and its kind; no place for a name that is no variable.
+#[derive(Clone, Copy, Debug, PartialEq, Eq)]
+pub(crate) struct Slot {
+    pub(crate) place: Option<usize>,
+    pub(crate) kind: VarKind,
+}
+
+/// Where the object of a name is.
+#[derive(Clone, Copy, Debug, PartialEq, Eq)]
+pub(crate) enum Home {
+    /// Its place among the local objects of the procedure, from 0.
+    Own(usize),
+    /// Its number, the same in each run.
+    Shared(u64),
+}
+
+/// What the names of a statement stand for. The slots of its variables stand in the order in which its form has them.
+#[derive(Drop)]
+pub(crate) struct Line {
+    pub(crate) first: Slot,
+    pub(crate) second: Slot,
+    pub(crate) third: Slot,
+    pub(crate) home: Home,
+    /// The slots of a call's arguments.
+    pub(crate) args: List<Slot>,
+    /// The number of the procedure that is called; none for a procedure that the program hasn't.
+    pub(crate) callee: Option<usize>,
+}
+
+/// What the names of a procedure stand for: a line for each statement, and a slot for each local.
+#[derive(Drop)]
+pub(crate) struct Plan {
+    pub(crate) lines: List<Line>,
+    pub(crate) locals: List<Slot>,
+}
 
 /// What stays the same while a procedure runs.
 #[derive(Drop)]

@@ -1,5 +1,5 @@
 -- the index of the loop is how many zeros there are
-use Rattle.std.proofs.Common.{◌≡◌, length, replicate}
+use Rattle.std.proofs.Common.{◌≡◌, replicate}
 use Rattle.cv_interp.proofs.begin.zeros.Given as goal
 
 abbrev pub invariant-loop-i : goal.invariant-loop-i

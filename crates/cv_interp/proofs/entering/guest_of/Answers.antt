@@ -1,4 +1,4 @@
-use Rattle.std.proofs.Common.{◌≡◌, ap, sym, ◌∙◌, refl, map}
+use Rattle.std.proofs.Common.{◌≡◌, ap, ◌∙◌, refl, map}
 use Rattle.cv_meaning.specs.declared.memory.NamedValue.{NamedValue}
 use Rattle.cv_interp.specs.Entered.{arguments}
 use Rattle.cv_interp.proofs.Bound.{argument_names, arrived_is}

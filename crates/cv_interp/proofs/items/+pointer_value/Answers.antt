@@ -1,4 +1,4 @@
-use Rattle.std.proofs.Common.{◌≡◌, refl}
+use Rattle.std.proofs.Common.{refl}
 use Rattle.cv_meaning.proofs.Terms.{pointer_value_pre}
 use Rattle.cv_interp.proofs.items.+pointer_value.Goals as goal
 

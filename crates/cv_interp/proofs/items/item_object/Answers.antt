@@ -1,4 +1,4 @@
-use Rattle.std.proofs.Common.{◌≡◌, refl}
+use Rattle.std.proofs.Common.{refl}
 use Rattle.cv_interp.proofs.items.item_object.Goals as goal
 
 pub returns-in-Star : goal.returns-in-Star

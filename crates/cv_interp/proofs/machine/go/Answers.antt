@@ -1,6 +1,5 @@
-use Rattle.std.proofs.Common.{◌≡◌, ap, refl, ◌∙◌, ◌<◌, Some, arith}
+use Rattle.std.proofs.Common.{ap, refl, ◌∙◌, ◌<◌, Some, arith}
 use Rattle.cv_meaning.specs.Run.{as_goes}
-use Rattle.cv_interp.specs.declared.machine.Core.{Core}
 use Rattle.cv_interp.specs.declared.machine.Ended.TheVariants as ended
 use Rattle.cv_interp.specs.declared.store.Store.{Store}
 use Rattle.cv_interp.specs.Seen.{frame, state}

@@ -1,11 +1,9 @@
-use Rattle.std.proofs.Common.{rules, ◌≡◌, ◌+◌, ◌<◌, ap, refl, sym, ◌∙◌, List, [], length, map, Some, Fits, w32, w64, to_z, of_z, arith}
-use Rattle.cv_interp.specs.declared.machine.Core.{Core}
+use Rattle.std.proofs.Common.{rules, ◌≡◌, ◌+◌, ◌<◌, ap, refl, [], map, Some, w32, to_z, of_z, arith}
 use Rattle.cv_interp.specs.declared.machine.Ended.TheVariants as ended
-use Rattle.cv_interp.specs.declared.store.Waiting.{Waiting}
 use Rattle.cv_interp.specs.Machine.{answer_of}
 use Rattle.cv_interp.specs.Stack.{stack_of, waiting_level}
 use Rattle.cv_interp.specs.Seen.{frame}
-use Rattle.cv_interp.proofs.Behind.{back_good, back_plain, back_room, back_stands, back_turn, ends_behind, none_waits, popped}
+use Rattle.cv_interp.proofs.Behind.{back_good, back_plain, back_room, back_stands, back_turn, ends_behind, popped}
 use Rattle.cv_interp.proofs.Going.{at_small}
 use Rattle.cv_interp.proofs.machine.go_back.Goals as goal
 

@@ -1,4 +1,4 @@
-use Rattle.std.proofs.Common.{◌≡◌, ap, ◌∙◌}
+use Rattle.std.proofs.Common.{ap, ◌∙◌}
 use Rattle.cv_interp.specs.Level.{Stack}
 use Rattle.cv_interp.specs.Machine.{end}
 use Rattle.cv_interp.specs.Stack.{stack_of}

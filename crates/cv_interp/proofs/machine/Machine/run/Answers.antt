@@ -1,5 +1,4 @@
-use Rattle.std.proofs.Common.{rules, ◌≡◌, ap, refl, sym, ◌∙◌, ℕ, ◌+◌, ◌<◌, None, Some, w32, to_z, of_z, arith}
-use Rattle.cv_meaning.specs.declared.ends.RunEnd.{RunEnd}
+use Rattle.std.proofs.Common.{rules, ◌≡◌, ap, refl, sym, ◌∙◌, ℕ, ◌+◌, w32, to_z, of_z, arith}
 use Rattle.cv_meaning.specs.declared.ends.RunEnd.TheVariants as how
 use Rattle.cv_interp.specs.Level.{Stack}
 use Rattle.cv_interp.specs.Machine.{end}

@@ -1,0 +1,290 @@
+//! What the names of a program stand for, looked up once before a run.
+ghost use Rattle.std.specs.Prelude.{◌≡◌, ◌<◌, ◌≤◌, IfOk, IfSome, IsSome, Some, length, map};
+ghost use Rattle.cv_core.specs.Names.{place_of};
+ghost use Rattle.cv_interp.specs.Plans.{any_slot as any_slot_of, any_slot_if as any_slot_if_of, home_of as home_in, line_in, line_of as line_as, nowhere as nowhere_of, operand_slot as operand_slot_of, plain as plain_of, plan_of as plan_as, plans_of as plans_as, slot_at as slot_at_of, slot_if as slot_if_of};
+
+use crate::objects::home_of;
+use crate::sites::stmts_of;
+use crate::slots::{locals_of, slot_at};
+use crate::store::{Home, Line, Plan, Slot};
+use cv_core::{AnyOperand, Bytes, Form, List, Local, Operand, Proc, Program, Stmt, VarKind};
+use std::alloc::{AllocError, Global};
+
+/// The slot where no variable is named.
+fn nowhere() -> Slot
+    ensures { result ≡ nowhere_of }
+{
+    Slot {
+        place: None,
+        kind: VarKind::Int,
+    }
+}
+
+fn slot_if(f: &Proc, x: &Option<Bytes>) -> Slot
+    ensures { result ≡ slot_if_of f.now x.now }
+{
+    match x {
+        None => nowhere(),
+        Some(x) => slot_at(f, x.as_slice()),
+    }
+}
+
+fn operand_slot(f: &Proc, e: &Operand) -> Slot
+    ensures { result ≡ operand_slot_of f.now e.now }
+{
+    match e {
+        Operand::Var(x) => slot_at(f, x.as_slice()),
+        Operand::Number(_) => nowhere(),
+    }
+}
+
+fn any_slot(f: &Proc, e: &AnyOperand) -> Slot
+    ensures { result ≡ any_slot_of f.now e.now }
+{
+    match e {
+        AnyOperand::Operand(e) => operand_slot(f, e),
+        AnyOperand::Null => nowhere(),
+    }
+}
+
+fn any_slot_if(f: &Proc, e: &Option<AnyOperand>) -> Slot
+    ensures { result ≡ any_slot_if_of f.now e.now }
+{
+    match e {
+        None => nowhere(),
+        Some(e) => any_slot(f, e),
+    }
+}
+
+/// A line of these slots, without an object and without a call; it takes no memory.
+fn plain(alloc: Global, first: Slot, second: Slot, third: Slot) -> Line
+    ensures { result ≡ plain_of first second third }
+{
+    Line {
+        first,
+        second,
+        third,
+        home: Home::Shared(0),
+        args: List::new(alloc),
+        callee: None,
+    }
+}
+
+/// The number of a procedure.
+pub(crate) fn proc_place(procs: &[Proc], x: &[u8]) -> Option<usize>
+    ensures within { IfSome result (λ i. i < length procs.now) }
+    ensures place { result ≡ place_of (λ g. g.name) x.now procs.now }
+{
+    procs.iter().position(|g| g.name.as_slice() == x)
+}
+
+fn any_slots(alloc: Global, f: &Proc, args: &[AnyOperand]) -> Result<Vec<Slot>, AllocError>
+    ensures { IfOk result (λ slots. slots.items ≡ map (any_slot_of f.now) args.now) }
+{
+    args.iter().map(|e| any_slot(f, e)).collect(alloc)
+}
+
+/// The line of a call.
+fn call_line(
+    alloc: Global,
+    p: &Program,
+    f: &Proc,
+    into: &Option<Bytes>,
+    g: &Bytes,
+    args: &List<AnyOperand>,
+) -> Result<Line, AllocError>
+    ensures { IfOk result (λ line. line ≡ line_as p.now f.now (Form.Call into.now g.now args.now)) }
+{
+    let slots = any_slots(alloc, f, args.as_slice())?;
+    Ok(Line {
+        first: slot_if(f, into),
+        second: nowhere(),
+        third: nowhere(),
+        home: Home::Shared(0),
+        args: List::from_vec(slots),
+        callee: proc_place(p.procs.as_slice(), g.as_slice()),
+    })
+}
+
+/// The line of an address.
+fn address_line(alloc: Global, p: &Program, f: &Proc, x: &Bytes, object: &Bytes) -> Line
+    requires globals { length p.now.globals ≤ 256 }
+    ensures { result ≡ line_as p.now f.now (Form.Address x.now object.now) }
+{
+    Line {
+        first: slot_at(f, x.as_slice()),
+        second: nowhere(),
+        third: nowhere(),
+        home: home_of(p, f, object.as_slice()),
+        args: List::new(alloc),
+        callee: None,
+    }
+}
+
+/// The slot of a variable and that of an operand.
+fn with_operand(alloc: Global, f: &Proc, x: &Bytes, e: &Operand) -> Line
+    ensures { result ≡ plain_of (slot_at_of f.now x.now) (operand_slot_of f.now e.now) nowhere_of }
+{
+    plain(
+        alloc,
+        slot_at(f, x.as_slice()),
+        operand_slot(f, e),
+        nowhere(),
+    )
+}
+
+/// The slot of a variable and those of two operands.
+fn with_operands(alloc: Global, f: &Proc, x: &Bytes, d: &Operand, e: &Operand) -> Line
+    ensures { result ≡ plain_of (slot_at_of f.now x.now) (operand_slot_of f.now d.now) (operand_slot_of f.now e.now) }
+{
+    plain(
+        alloc,
+        slot_at(f, x.as_slice()),
+        operand_slot(f, d),
+        operand_slot(f, e),
+    )
+}
+
+/// The slots of two variables.
+fn with_variable(alloc: Global, f: &Proc, x: &Bytes, y: &Bytes) -> Line
+    ensures { result ≡ plain_of (slot_at_of f.now x.now) (slot_at_of f.now y.now) nowhere_of }
+{
+    plain(
+        alloc,
+        slot_at(f, x.as_slice()),
+        slot_at(f, y.as_slice()),
+        nowhere(),
+    )
+}
+
+/// The slots of three variables.
+fn with_variables(alloc: Global, f: &Proc, x: &Bytes, y: &Bytes, z: &Bytes) -> Line
+    ensures { result ≡ plain_of (slot_at_of f.now x.now) (slot_at_of f.now y.now) (slot_at_of f.now z.now) }
+{
+    plain(
+        alloc,
+        slot_at(f, x.as_slice()),
+        slot_at(f, y.as_slice()),
+        slot_at(f, z.as_slice()),
+    )
+}
+
+/// The slots of two variables and that of an operand.
+fn with_both(alloc: Global, f: &Proc, x: &Bytes, y: &Bytes, e: &Operand) -> Line
+    ensures { result ≡ plain_of (slot_at_of f.now x.now) (slot_at_of f.now y.now) (operand_slot_of f.now e.now) }
+{
+    plain(
+        alloc,
+        slot_at(f, x.as_slice()),
+        slot_at(f, y.as_slice()),
+        operand_slot(f, e),
+    )
+}
+
+/// The slot of a variable, and that of one that may not be there.
+fn with_maybe(alloc: Global, f: &Proc, x: &Bytes, q: &Option<Bytes>) -> Line
+    ensures { result ≡ plain_of (slot_at_of f.now x.now) (slot_if_of f.now q.now) nowhere_of }
+{
+    plain(alloc, slot_at(f, x.as_slice()), slot_if(f, q), nowhere())
+}
+
+/// The slot of a variable, and that of an operand or null.
+fn with_any(alloc: Global, f: &Proc, x: &Bytes, e: &AnyOperand) -> Line
+    ensures { result ≡ plain_of (slot_at_of f.now x.now) (any_slot_of f.now e.now) nowhere_of }
+{
+    plain(alloc, slot_at(f, x.as_slice()), any_slot(f, e), nowhere())
+}
+
+/// The slot of a variable alone.
+fn alone(alloc: Global, f: &Proc, x: &Bytes) -> Line
+    ensures { result ≡ plain_of (slot_at_of f.now x.now) nowhere_of nowhere_of }
+{
+    plain(alloc, slot_at(f, x.as_slice()), nowhere(), nowhere())
+}
+
+/// The line of a form; an error is want of memory.
+fn line_of(alloc: Global, p: &Program, f: &Proc, form: &Form) -> Result<Line, AllocError>
+    requires globals { length p.now.globals ≤ 256 }
+    ensures { IfOk result (λ line. line ≡ line_as p.now f.now form.now) }
+{
+    match form {
+        Form::Assign { x, e } => Ok(with_operand(alloc, f, x, e)),
+        Form::Sum { x, e, f: d } => Ok(with_operands(alloc, f, x, e, d)),
+        Form::Minus { x, e, f: d } => Ok(with_operands(alloc, f, x, e, d)),
+        Form::Product { x, e, .. } => Ok(with_operand(alloc, f, x, e)),
+        Form::Quotient { x, e, .. } => Ok(with_operand(alloc, f, x, e)),
+        Form::Remainder { x, e, .. } => Ok(with_operand(alloc, f, x, e)),
+        Form::CopyPtr { p: x, q } => Ok(with_maybe(alloc, f, x, q)),
+        Form::Address { p: x, object } => Ok(address_line(alloc, p, f, x, object)),
+        Form::Shift { p: x, q, e } => Ok(with_both(alloc, f, x, q, e)),
+        Form::Load { x, p: q } => Ok(with_variable(alloc, f, x, q)),
+        Form::Store { p: x, e } => Ok(with_operand(alloc, f, x, e)),
+        Form::Get { x, w } => Ok(with_variable(alloc, f, x, w)),
+        Form::Put { w, value } => Ok(with_any(alloc, f, w, value)),
+        Form::Diff { x, p: q, q: r } => Ok(with_variables(alloc, f, x, q, r)),
+        Form::Goto(_) => Ok(plain(alloc, nowhere(), nowhere(), nowhere())),
+        Form::If { left, right, .. } => Ok(plain(
+            alloc,
+            operand_slot(f, left),
+            any_slot(f, right),
+            nowhere(),
+        )),
+        Form::IfByte { p: x, .. } => Ok(alone(alloc, f, x)),
+        Form::Call { into, f: g, args } => call_line(alloc, p, f, into, g, args),
+        Form::Return(e) => Ok(plain(alloc, any_slot_if(f, e), nowhere(), nowhere())),
+    }
+}
+
+fn lines_of(alloc: Global, p: &Program, f: &Proc, stmts: &[Stmt]) -> Result<List<Line>, AllocError>
+    requires globals { length p.now.globals ≤ 256 }
+    ensures { IfOk result (λ lines. lines ≡ map (λ s. line_as p.now f.now s.form) stmts.now) }
+{
+    let mut lines = List::new(alloc);
+    for stmt in stmts {
+        lines.push(line_of(alloc, p, f, &stmt.form)?)?;
+    }
+    Ok(lines)
+}
+
+fn local_slot(f: &Proc, l: &Local) -> Slot
+    ensures { result ≡ slot_at_of f.now l.now.name }
+{
+    slot_at(f, l.name.as_slice())
+}
+
+fn local_slots(alloc: Global, f: &Proc, locals: &[Local]) -> Result<Vec<Slot>, AllocError>
+    ensures { IfOk result (λ slots. slots.items ≡ map (λ l. slot_at_of f.now l.name) locals.now) }
+{
+    locals.iter().map(|l| local_slot(f, l)).collect(alloc)
+}
+
+/// The plan of a procedure; an error is want of memory.
+fn plan_of(alloc: Global, p: &Program, f: &Proc) -> Result<Plan, AllocError>
+    requires globals { length p.now.globals ≤ 256 }
+    ensures { IfOk result (λ plan. plan ≡ plan_as p.now f.now) }
+{
+    Ok(Plan {
+        lines: lines_of(alloc, p, f, stmts_of(f))?,
+        locals: List::from_vec(local_slots(alloc, f, locals_of(f))?),
+    })
+}
+
+/// The plans of all procedures; an error is want of memory.
+pub(crate) fn plans_of(alloc: Global, p: &Program) -> Result<List<Plan>, AllocError>
+    requires globals { length p.now.globals ≤ 256 }
+    ensures { IfOk result (λ plans. plans ≡ plans_as p.now) }
+{
+    let mut plans = List::new(alloc);
+    for f in p.procs.as_slice() {
+        plans.push(plan_of(alloc, p, f)?)?;
+    }
+    Ok(plans)
+}
+
+/// The line of the statement `at` of the procedure of a number.
+pub(crate) fn line_at(plans: &List<Plan>, number: u32, at: usize) -> &Line
+    requires { IsSome (line_in plans.now number at) }
+    ensures { line_in plans.now number at ≡ Some result.now }
+{
+    &plans.as_slice()[number as usize].lines.as_slice()[at]
+}
