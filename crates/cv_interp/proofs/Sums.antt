@@ -13,7 +13,7 @@ plus_fold : (a : ℕ) (ys : List ℕ) → fold (λ s x. s + x) a ys ≡ a + fold
 plus_fold a [] = omega arith
 plus_fold a (y ∷ ys) = let e = plus_fold (a + y) ys in let h = plus_fold (0 + y) ys in omega arith
 
-sum_cons : (y : ℕ) (ys : List ℕ) → sum (y ∷ ys) ≡ y + sum ys
+pub sum_cons : (y : ℕ) (ys : List ℕ) → sum (y ∷ ys) ≡ y + sum ys
 sum_cons y ys = let e = plus_fold (0 + y) ys in omega arith
 
 pub count_cons : {X : Type 0} (p : X → Bool) (x : X) (xs : List X) → count_by p (x ∷ xs) ≡ cond (p x) 1 0 + count_by p xs

@@ -1,7 +1,7 @@
 -- What names stand for, looked up once before a run: the slots of variables, the homes of objects, the procedures called.
-use Rattle.std.specs.Prelude.{ℕ, ◌+◌, List, [], length, map, slice_get, Option, Some, None}
+use Rattle.std.specs.Prelude.{ℕ, ◌+◌, List, [], ◌∷◌, length, map, sum, take, slice_get, Option, Some, None}
 use Rattle.std.specs.Option.{option_and_then}
-use Rattle.cv_core.specs.Names.{Name, kind_of, locals_of, objects_of, place_of, stmts_of}
+use Rattle.cv_core.specs.Names.{Name, kind_of, local_site, locals_of, mallocs_in, objects_of, place_of, stmts_of}
 use Rattle.cv_core.specs.declared.program.Program.{Program}
 use Rattle.cv_core.specs.declared.program.Proc.{Proc}
 use Rattle.cv_core.specs.declared.program.VarKind.TheVariants as kind
@@ -92,12 +92,28 @@ line_of P f (form.Call into g args) =
     record (plain (slot_if f into) nowhere nowhere) { args = map (any_slot f) args; callee = place_of (λ h. h.name) g P.procs }
 line_of P f (form.Return e) = plain (any_slot_if f e) nowhere nowhere
 
-abbrev pub plan_of : Program → Proc → Plan
-plan_of P f = record { lines = map (λ s. line_of P f s.form) (stmts_of f.body); locals = map (λ l. slot_at f l.name) (locals_of f.body) }
+-- the plan of a procedure of which the first local object and the first call of malloc have these sites
+abbrev pub plan_of : Program → Proc → ℕ → ℕ → Plan
+plan_of P f site mallocs = record {
+  lines = map (λ s. line_of P f s.form) (stmts_of f.body);
+  locals = map (λ l. slot_at f l.name) (locals_of f.body);
+  site = site;
+  mallocs = mallocs;
+}
+
+-- the plans of procedures that follow one another
+abbrev pub plans_from : Program → ℕ → ℕ → List Proc → List Plan
+plans_from P site mallocs [] = []
+plans_from P site mallocs (f ∷ fs) =
+    plan_of P f site mallocs ∷ plans_from P (site + length (objects_of f)) (mallocs + mallocs_in (stmts_of f.body)) fs
 
 -- the plans of all procedures
 abbrev pub plans_of : Program → List Plan
-plans_of P = map (plan_of P) P.procs
+plans_of P = plans_from P (local_site P 0) (local_site P (length P.procs)) P.procs
+
+-- the site of the first call of malloc in the procedure i
+abbrev pub first_malloc : Program → ℕ → ℕ
+first_malloc P i = local_site P (length P.procs) + sum (map (λ g. mallocs_in (stmts_of g.body)) (take i P.procs))
 
 -- the line of the statement k of the procedure i
 abbrev pub line_in : List Plan → ℕ → ℕ → Option Line

@@ -1,7 +1,7 @@
 //! Where a run of main begins.
 ghost use Rattle.std.specs.Prelude.{◌≡◌, ◌+◌, ◌++◌, ◌∷◌, [], ◌≤◌, ◌<◌, ◌^◌, All, IfOk, IfSome, OnOk, OnSome, length, map, replicate, true};
 ghost use Rattle.cv_core.specs.Grammar.{IsWritten};
-ghost use Rattle.cv_core.specs.Names.{local_site as local_site_of, locals_of as locals_in};
+ghost use Rattle.cv_core.specs.Names.{locals_of as locals_in};
 ghost use Rattle.cv_meaning.specs.Clean.{literal_objects};
 ghost use Rattle.cv_meaning.specs.Look.{look};
 ghost use Rattle.cv_meaning.specs.Memory.{IsShort};
@@ -15,8 +15,7 @@ ghost use Rattle.cv_interp.specs.Start.{HasFewBytes, IsMain, arg_values, fit as 
 
 use crate::entering::{furnished, make};
 use crate::plan::proc_place;
-use crate::sites::local_site;
-use crate::store::{Room, Slot, Taken};
+use crate::store::{Plan, Room, Taken};
 use cv_core::{Bytes, Formal, GlobalBody, GlobalDecl, List, Literal, Proc, Program, VarKind};
 use cv_meaning::{Arg, Body, Mem, NamedValue, Ptr, Value, World};
 use std::alloc::{AllocError, Global};
@@ -249,31 +248,28 @@ pub(crate) fn beginning(
 pub(crate) fn first_room(
     alloc: Global,
     p: &Program,
-    number: u32,
     main: &Proc,
-    slots: &[Slot],
+    plan: &Plan,
     formals: &List<NamedValue>,
     memory: &Mem,
     count: u64,
     w: &World,
 ) -> Result<Room, AllocError>
-    requires slots { slots.now ≡ map (λ l. slot_at_of main.now l.name) (locals_in main.now.body) }
+    requires slots { plan.now.locals ≡ map (λ l. slot_at_of main.now l.name) (locals_in main.now.body) }
     requires names { map (λ n. n.name) formals.now ≡ map (λ f. f.name) main.now.formals }
     requires count { count ≡ length memory.now }
     requires few { count ≤ 2 ^ 62 }
-    ensures state { IfOk result (λ room. state_in main.now w.now [] room ≡ make_locals_in p.now (local_site_of p.now number) (locals_in main.now.body) (record { vars = look formals.now; memory = memory.now; world = w.now; output = [] })) }
+    ensures state { IfOk result (λ room. state_in main.now w.now [] room ≡ make_locals_in p.now plan.now.site (locals_in main.now.body) (record { vars = look formals.now; memory = memory.now; world = w.now; output = [] })) }
     ensures room { IfOk result (λ room. IsRoom main.now room) }
 {
-    let Some(site) = local_site(p, number as usize) else {
-        return Err(AllocError);
-    };
     let taken = Taken {
         input: 0,
         fresh: 0,
         allocations: 0,
         answers: 0,
     };
+    let slots = plan.locals.as_slice();
     furnished(
-        alloc, p, main, slots, site, formals, memory, count, w, taken,
+        alloc, p, main, slots, plan.site, formals, memory, count, w, taken,
     )
 }

@@ -12,13 +12,14 @@ ghost use Rattle.cv_meaning.specs.declared.memory.World.{World as WorldValue};
 ghost use Rattle.cv_interp.specs.Called.{IsCalled, IsInto, IsSame, bound_by, lone_or_zero};
 ghost use Rattle.cv_interp.specs.Entered.{IsRoom, arrived};
 ghost use Rattle.cv_interp.specs.Good.{IsActive};
-ghost use Rattle.cv_interp.specs.Plans.{any_slot as any_slot_of, line_of as line_as, plans_of as plans_as, slot_at as slot_at_of, slot_if as slot_if_of};
+ghost use Rattle.cv_interp.specs.Plans.{any_slot as any_slot_of, first_malloc, line_of as line_as, plans_of as plans_as, slot_at as slot_at_of, slot_if as slot_if_of};
 ghost use Rattle.cv_interp.specs.Seen.{frame, left, state, state_in};
 ghost use Rattle.cv_interp.specs.Slots.{env_of};
 
 use crate::cells::may_change;
 use crate::entering::{Guest, furnished, guest_of, make_buffer, may_enter};
-use crate::sites::{local_site, malloc_site};
+use crate::plan::plan_at;
+use crate::sites::malloc_site;
 use crate::slots::{any_value, assign_value, low_byte, number};
 use crate::store::{Activation, Line, Plan, Room, Slot, Store};
 use crate::world::{after_allocation, after_answer, after_byte, allocation, answer_in, byte_read};
@@ -102,8 +103,10 @@ fn malloc<'a>(
     p: &Program,
     a: &Activation,
     site: &Site,
+    mallocs: u32,
     s: &mut Store,
 ) -> Result<Called<'a>, AllocError>
+    requires mallocs { mallocs ≡ first_malloc p.now a.now.number }
     requires at { site.now.at ≡ slot_if_of a.now.proc.now site.now.into.now }
     requires slot { IsInto a.now.proc.now site.now.into.now }
     requires room { IsRoom a.now.proc.now s.old.room }
@@ -122,7 +125,7 @@ fn malloc<'a>(
         given(p, a, site, Value::Ptr(Ptr::Null), s);
         return Ok(Called::Goes);
     }
-    let Some(number) = malloc_site(p, a.number as usize, a.proc, site.k) else {
+    let Some(number) = malloc_site(p, a, mallocs, site.k) else {
         return Err(AllocError);
     };
     let object = make_buffer(alloc, a.proc, &s.world, number, size as usize, &mut s.room)?;
@@ -285,28 +288,26 @@ fn make_entered<'a>(
     p: &Program,
     number: u32,
     g: &'a Proc,
-    slots: &[Slot],
+    plan: &Plan,
     guest: Guest,
     a: &Activation,
     place: &Site,
     s: &mut Store,
 ) -> Result<Called<'a>, AllocError>
-    requires slots { slots.now ≡ map (λ l. slot_at_of g.now l.name) (locals_in g.now.body) }
+    requires slots { plan.now.locals ≡ map (λ l. slot_at_of g.now l.name) (locals_in g.now.body) }
+    requires site { plan.now.site ≡ local_site_of p.now number }
     requires room { IsRoom a.now.proc.now s.old.room }
     requires names { map (λ n. n.name) guest.formals ≡ map (λ f. f.name) g.now.formals }
     requires body { IsSome g.now.body }
     ensures ok { IfOk result (λ c. IsCalled a.now place.now.k (entry_turn p.now (frame a.now) (arrived number g.now guest s.old.room.memory) place.now.k place.now.into.now g.now.body (state a.now.proc.now s.old)) s.old c s.new) }
     ensures err { OnErr result (IsSame s.old s.new) }
 {
-    let Some(site) = local_site(p, number as usize) else {
-        return Err(AllocError);
-    };
     let inner = furnished(
         alloc,
         p,
         g,
-        slots,
-        site,
+        plan.locals.as_slice(),
+        plan.site,
         &guest.formals,
         &s.room.memory,
         s.room.made,
@@ -333,10 +334,11 @@ fn call_proc<'a>(
     site: &Site,
     number: u32,
     g: &'a Proc,
-    slots: &[Slot],
+    plan: &Plan,
     s: &mut Store,
 ) -> Result<Called<'a>, AllocError>
-    requires slots { slots.now ≡ map (λ l. slot_at_of g.now l.name) (locals_in g.now.body) }
+    requires slots { plan.now.locals ≡ map (λ l. slot_at_of g.now l.name) (locals_in g.now.body) }
+    requires site { plan.now.site ≡ local_site_of p.now number }
     requires at { site.now.at ≡ slot_if_of a.now.proc.now site.now.into.now }
     requires slot { IsInto a.now.proc.now site.now.into.now }
     requires room { IsRoom a.now.proc.now s.old.room }
@@ -354,7 +356,7 @@ fn call_proc<'a>(
         Err(kind) => Ok(Called::Errs(kind)),
         Ok(()) => match g.body {
             None => asked(p, a, site, g, &guest, s),
-            Some(_) => make_entered(alloc, p, number, g, slots, guest, a, site, s),
+            Some(_) => make_entered(alloc, p, number, g, plan, guest, a, site, s),
         },
     }
 }
@@ -366,7 +368,7 @@ fn call_named<'a>(
     a: &Activation,
     site: &Site,
     plans: &List<Plan>,
-    callee: Option<usize>,
+    callee: Option<u32>,
     s: &mut Store,
 ) -> Result<Called<'a>, AllocError>
     requires plans { plans.now ≡ plans_as p.now }
@@ -379,15 +381,11 @@ fn call_named<'a>(
     ensures ok { IfOk result (λ c. IsCalled a.now site.now.k (call_named_in p.now (frame a.now) site.now.k site.now.into.now callee site.now.args.now (state a.now.proc.now s.old)) s.old c s.new) }
     ensures err { OnErr result (IsSame s.old s.new) }
 {
-    let Some(i) = callee else {
+    let Some(number) = callee else {
         return Ok(Called::Goes);
     };
-    let g = &p.procs.as_slice()[i];
-    let plan = &plans.as_slice()[i];
-    let Ok(number) = u32::try_from(i) else {
-        return Err(AllocError);
-    };
-    call_proc(alloc, p, a, site, number, g, plan.locals.as_slice(), s)
+    let g = &p.procs.as_slice()[number as usize];
+    call_proc(alloc, p, a, site, number, g, plan_at(plans, number), s)
 }
 
 /// Puts the values of the arguments behind others.
@@ -465,7 +463,7 @@ pub(crate) fn call<'a>(
     };
     let name = x.as_slice();
     if name == b"malloc".as_slice() {
-        malloc(alloc, p, a, &site, s)
+        malloc(alloc, p, a, &site, plan_at(plans, a.number).mallocs, s)
     } else if name == b"getchar".as_slice() {
         Ok(getchar(p, a, &site, s))
     } else if name == b"putchar".as_slice() {

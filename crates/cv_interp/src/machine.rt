@@ -17,14 +17,14 @@ ghost use Rattle.cv_interp.specs.Slots.{env_of};
 ghost use Rattle.cv_interp.specs.Takes.{IsNear};
 ghost use Rattle.cv_interp.specs.Good.{IsGood, Leads, ended_how, is_plain};
 ghost use Rattle.cv_interp.specs.Stack.{stack_of};
-ghost use Rattle.cv_core.specs.Names.{locals_of as locals_in, stmts_of as stmts_in};
+ghost use Rattle.cv_core.specs.Names.{local_site as local_site_of, locals_of as locals_in, stmts_of as stmts_in};
 ghost use Rattle.cv_interp.specs.Start.{HasFewBytes, IsMain, IsRefusal, are_mains, fit as fit_in, start_memory, start_values};
 
 use crate::begin::{Made, StartError, beginning, first_room, fit, main_of};
 use crate::calls::{Called, Entered, call, give};
 use crate::entering::{Guest, guest_of, may_enter};
 use crate::leaving::leave;
-use crate::plan::{line_at, plans_of};
+use crate::plan::{line_at, plan_at, plans_of};
 use crate::sites::stmts_of;
 use crate::slots::any_value;
 use crate::steps::step;
@@ -384,11 +384,12 @@ fn first_core<'a>(
     program: &'a Program,
     number: u32,
     main: &'a Proc,
-    slots: &[Slot],
+    plan: &Plan,
     args: &[Arg],
     world: World,
 ) -> Result<Core<'a>, AllocError>
-    requires slots { slots.now ≡ map (λ l. slot_at_of main.now l.name) (locals_in main.now.body) }
+    requires slots { plan.now.locals ≡ map (λ l. slot_at_of main.now l.name) (locals_in main.now.body) }
+    requires site { plan.now.site ≡ local_site_of program.now number }
     requires well_formed { IsSoundProgram program.now }
     requires limits { first_limit program.now ≡ None }
     requires texts { All HasFewBytes args.now }
@@ -404,9 +405,7 @@ fn first_core<'a>(
     let guest = guest_of(alloc, program, main, values.as_slice(), &memory, count)?;
     let ended = barred(program, number, main, &guest, &memory);
     let formals = &guest.formals;
-    let room = first_room(
-        alloc, program, number, main, slots, formals, &memory, count, &world,
-    )?;
+    let room = first_room(alloc, program, main, plan, formals, &memory, count, &world)?;
     let Guest { formals, permit } = guest;
     Ok(Core {
         alloc,
@@ -453,8 +452,8 @@ impl<'a> Machine<'a> {
             return Err(StartError::Args);
         }
         let plans = plans_of(alloc, program)?;
-        let slots = plans.as_slice()[number as usize].locals.as_slice();
-        let core = first_core(alloc, program, number, main, slots, args, world)?;
+        let main_plan = plan_at(&plans, number);
+        let core = first_core(alloc, program, number, main, main_plan, args, world)?;
         Ok(Machine { core, plans })
     }
 

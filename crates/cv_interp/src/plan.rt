@@ -1,10 +1,10 @@
 //! What the names of a program stand for, looked up once before a run.
-ghost use Rattle.std.specs.Prelude.{◌≡◌, ◌<◌, ◌≤◌, IfOk, IfSome, IsSome, Some, length, map};
+ghost use Rattle.std.specs.Prelude.{◌≡◌, ◌+◌, ◌++◌, ◌<◌, ◌≤◌, IfOk, IfSome, IsSome, OnOk, Some, length, map, slice_get};
 ghost use Rattle.cv_core.specs.Names.{place_of};
-ghost use Rattle.cv_interp.specs.Plans.{any_slot as any_slot_of, any_slot_if as any_slot_if_of, home_of as home_in, line_in, line_of as line_as, nowhere as nowhere_of, operand_slot as operand_slot_of, plain as plain_of, plan_of as plan_as, plans_of as plans_as, slot_at as slot_at_of, slot_if as slot_if_of};
+ghost use Rattle.cv_interp.specs.Plans.{any_slot as any_slot_of, any_slot_if as any_slot_if_of, home_of as home_in, line_in, line_of as line_as, nowhere as nowhere_of, operand_slot as operand_slot_of, plain as plain_of, plan_of as plan_as, plans_from as plans_behind, plans_of as plans_as, slot_at as slot_at_of, slot_if as slot_if_of};
 
-use crate::objects::home_of;
-use crate::sites::stmts_of;
+use crate::objects::{home_of, objects_of};
+use crate::sites::{local_site, mallocs_in, plus, stmts_of};
 use crate::slots::{locals_of, slot_at};
 use crate::store::{Home, Line, Plan, Slot};
 use cv_core::{AnyOperand, Bytes, Form, List, Local, Operand, Proc, Program, Stmt, VarKind};
@@ -84,6 +84,19 @@ fn any_slots(alloc: Global, f: &Proc, args: &[AnyOperand]) -> Result<Vec<Slot>, 
     args.iter().map(|e| any_slot(f, e)).collect(alloc)
 }
 
+/// The number of the procedure that is called; an error where it is no 32-bit number.
+fn callee_of(p: &Program, g: &Bytes) -> Result<Option<u32>, AllocError>
+    ensures { IfOk result (λ c. c ≡ place_of (λ h. h.name) g.now p.now.procs) }
+{
+    match proc_place(p.procs.as_slice(), g.as_slice()) {
+        None => Ok(None),
+        Some(i) => match u32::try_from(i) {
+            Err(_) => Err(AllocError),
+            Ok(number) => Ok(Some(number)),
+        },
+    }
+}
+
 /// The line of a call.
 fn call_line(
     alloc: Global,
@@ -102,7 +115,7 @@ fn call_line(
         third: nowhere(),
         home: Home::Shared(0),
         args: List::from_vec(slots),
-        callee: proc_place(p.procs.as_slice(), g.as_slice()),
+        callee: callee_of(p, g)?,
     })
 }
 
@@ -259,14 +272,56 @@ fn local_slots(alloc: Global, f: &Proc, locals: &[Local]) -> Result<Vec<Slot>, A
 }
 
 /// The plan of a procedure; an error is want of memory.
-fn plan_of(alloc: Global, p: &Program, f: &Proc) -> Result<Plan, AllocError>
+fn plan_of(
+    alloc: Global,
+    p: &Program,
+    f: &Proc,
+    site: u32,
+    mallocs: u32,
+) -> Result<Plan, AllocError>
     requires globals { length p.now.globals ≤ 256 }
-    ensures { IfOk result (λ plan. plan ≡ plan_as p.now f.now) }
+    ensures { IfOk result (λ plan. plan ≡ plan_as p.now f.now site mallocs) }
 {
     Ok(Plan {
         lines: lines_of(alloc, p, f, stmts_of(f))?,
         locals: List::from_vec(local_slots(alloc, f, locals_of(f))?),
+        site,
+        mallocs,
     })
+}
+
+/// The site behind so many more; an error where 32 bits don't hold it.
+fn past(site: u32, count: usize) -> Result<u32, AllocError>
+    ensures { IfOk result (λ next. next ≡ site + count) }
+{
+    match plus(site, count) {
+        None => Err(AllocError),
+        Some(next) => Ok(next),
+    }
+}
+
+/// Puts the plans of procedures that follow one another behind others.
+#[tactic(auto, using(crate::proofs::Planned::more_plans))]
+fn put_plans(
+    alloc: Global,
+    p: &Program,
+    procs: &[Proc],
+    site: u32,
+    mallocs: u32,
+    plans: &mut List<Plan>,
+) -> Result<(), AllocError>
+    requires globals { length p.now.globals ≤ 256 }
+    ensures { OnOk result (plans.new ≡ plans.old ++ plans_behind p.now site mallocs procs.now) }
+{
+    match procs {
+        [] => Ok(()),
+        [f, rest @ ..] => {
+            plans.push(plan_of(alloc, p, f, site, mallocs)?)?;
+            let next = past(site, objects_of(f))?;
+            let later = past(mallocs, mallocs_in(stmts_of(f)))?;
+            put_plans(alloc, p, rest, next, later, plans)
+        }
+    }
 }
 
 /// The plans of all procedures; an error is want of memory.
@@ -275,9 +330,13 @@ pub(crate) fn plans_of(alloc: Global, p: &Program) -> Result<List<Plan>, AllocEr
     ensures { IfOk result (λ plans. plans ≡ plans_as p.now) }
 {
     let mut plans = List::new(alloc);
-    for f in p.procs.as_slice() {
-        plans.push(plan_of(alloc, p, f)?)?;
-    }
+    let Some(site) = local_site(p, 0) else {
+        return Err(AllocError);
+    };
+    let Some(mallocs) = local_site(p, p.procs.len()) else {
+        return Err(AllocError);
+    };
+    put_plans(alloc, p, p.procs.as_slice(), site, mallocs, &mut plans)?;
     Ok(plans)
 }
 
@@ -287,4 +346,12 @@ pub(crate) fn line_at(plans: &List<Plan>, number: u32, at: usize) -> &Line
     ensures { line_in plans.now number at ≡ Some result.now }
 {
     &plans.as_slice()[number as usize].lines.as_slice()[at]
+}
+
+/// The plan of the procedure of a number.
+pub(crate) fn plan_at(plans: &List<Plan>, number: u32) -> &Plan
+    requires { number < length plans.now }
+    ensures { slice_get plans.now number ≡ Some result.now }
+{
+    &plans.as_slice()[number as usize]
 }

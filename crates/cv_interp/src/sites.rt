@@ -1,12 +1,14 @@
 //! Sites of objects; None where a site would be no 32-bit number.
 ghost use Rattle.std.specs.Prelude.{◌≡◌, ◌+◌, ◌≤◌, IfSome, length, map, sum, take};
 ghost use Rattle.cv_core.specs.Names.{is_malloc as is_malloc_in, local_site as local_site_of, malloc_site as malloc_site_of, mallocs_in as mallocs_of, objects_of as objects_in, stmts_at, stmts_of as stmts_in};
+ghost use Rattle.cv_interp.specs.Plans.{first_malloc};
 
 use crate::objects::objects_of;
+use crate::store::Activation;
 use cv_core::{Form, Proc, Program, Stmt};
 
 /// The sum of two counts.
-fn plus(a: u32, b: usize) -> Option<u32>
+pub(crate) fn plus(a: u32, b: usize) -> Option<u32>
     ensures { IfSome result (λ s. s ≡ a + b) }
 {
     match u32::try_from(b) {
@@ -60,7 +62,8 @@ fn is_malloc(form: &Form) -> bool
 }
 
 #[tactic(auto, using(crate::proofs::Sums::count_yes, crate::proofs::Sums::count_no))]
-fn mallocs_in(stmts: &[Stmt]) -> usize
+/// How many of the statements are calls of malloc.
+pub(crate) fn mallocs_in(stmts: &[Stmt]) -> usize
     ensures count { result ≡ mallocs_of stmts.now }
     ensures within { result ≤ length stmts.now }
 {
@@ -77,31 +80,14 @@ fn mallocs_in(stmts: &[Stmt]) -> usize
     }
 }
 
-/// `start` and the calls of malloc of so many procedures.
-#[tactic(auto, using(crate::proofs::Sums::sum_step, crate::proofs::Sums::sum_none))]
-fn past_mallocs(procs: &[Proc], count: usize, start: u32) -> Option<u32>
-    ensures { IfSome result (λ s. s ≡ start + sum (map (λ g. mallocs_of (stmts_in g.body)) (take count procs.now))) }
+/// The site of the call of malloc at statement `k` of the procedure that runs, where `first` is that of its first one.
+#[tactic(auto, using(crate::proofs::Planned::malloc_is))]
+pub(crate) fn malloc_site(_p: &Program, a: &Activation, first: u32, k: usize) -> Option<u32>
+    requires first { first ≡ first_malloc _p.now a.now.number }
+    requires stmts { stmts_at _p.now.procs a.now.number ≡ stmts_in a.now.proc.now.body }
+    requires place { k ≤ length (stmts_in a.now.proc.now.body) }
+    ensures { IfSome result (λ s. s ≡ malloc_site_of _p.now a.now.number k) }
 {
-    match procs {
-        [] => Some(start),
-        [first, rest @ ..] => {
-            if count == 0 {
-                Some(start)
-            } else {
-                past_mallocs(rest, count - 1, plus(start, mallocs_in(stmts_of(first)))?)
-            }
-        }
-    }
-}
-
-/// The site of the call of malloc at statement `k` of the procedure of a number.
-pub(crate) fn malloc_site(p: &Program, number: usize, f: &Proc, k: usize) -> Option<u32>
-    requires stmts { stmts_at p.now.procs number ≡ stmts_in f.now.body }
-    requires place { k ≤ length (stmts_in f.now.body) }
-    ensures { IfSome result (λ s. s ≡ malloc_site_of p.now number k) }
-{
-    let objects = local_site(p, p.procs.len())?;
-    let earlier = past_mallocs(p.procs.as_slice(), number, objects)?;
-    let stmts = stmts_of(f);
-    plus(earlier, mallocs_in(&stmts[..k]))
+    let stmts = stmts_of(a.proc);
+    plus(first, mallocs_in(&stmts[..k]))
 }

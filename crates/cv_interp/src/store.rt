@@ -28,14 +28,18 @@ pub(crate) struct Line {
     /// The slots of a call's arguments.
     pub(crate) args: List<Slot>,
     /// The number of the procedure that is called; none for a procedure that the program hasn't.
-    pub(crate) callee: Option<usize>,
+    pub(crate) callee: Option<u32>,
 }
 
-/// What the names of a procedure stand for: a line for each statement, and a slot for each local.
+/// What the names of a procedure stand for: a line for each statement, and a slot for each local; and its sites.
 #[derive(Drop)]
 pub(crate) struct Plan {
     pub(crate) lines: List<Line>,
     pub(crate) locals: List<Slot>,
+    /// The site of its first local object.
+    pub(crate) site: u32,
+    /// The site of its first call of malloc.
+    pub(crate) mallocs: u32,
 }
 
 /// What stays the same while a procedure runs.

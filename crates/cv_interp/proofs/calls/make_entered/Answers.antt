@@ -18,11 +18,11 @@ pub returns-clause-ok : goal.returns-clause-ok
 returns-clause-ok c =
     let e : Frame = arrived c.args.number c.args.g.now c.args.guest c.args.s.now.room.memory in
     let start : State = record (state c.args.a.now.proc.now c.args.s.now) { vars = look c.args.guest.formals } in
-    let inner : state c.args.g.now (record c.args.s.now { room = c.replace-vars.new.dest }) ≡ make_locals c.args.p.now c.in-Some.site (locals_of c.args.g.now.body) start =
+    let inner : state c.args.g.now (record c.args.s.now { room = c.replace-vars.new.dest }) ≡ make_locals c.args.p.now c.args.plan.now.site (locals_of c.args.g.now.body) start =
     ap (state_in c.args.g.now c.args.s.now.world c.args.s.now.output.items) c.replace-vars.ensures.after
-    ∙ same_output c.args.p.now c.args.g.now c.args.s.now.world c.args.s.now.output.items c.in_ok-inner.inner c.in-Some.site (locals_of c.args.g.now.body) (look c.args.guest.formals)
+    ∙ same_output c.args.p.now c.args.g.now c.args.s.now.world c.args.s.now.output.items c.in_ok-inner.inner c.args.plan.now.site (locals_of c.args.g.now.body) (look c.args.guest.formals)
     c.args.s.now.room.memory (left c.args.s.now.world c.args.s.now.room.taken) c.in_ok-inner.ensures.state in
-    let site : c.in-Some.site ≡ local_site c.args.p.now c.args.number = c.in-Some.ensures in (
+    let site : c.args.plan.now.site ≡ local_site c.args.p.now c.args.number = c.requires.site in (
       enters c.args.p.now (frame c.args.a.now) e c.args.place.now.k c.args.place.now.into.now c.args.g.now.body (state c.args.a.now.proc.now c.args.s.now) c.requires.body
           ∙ ap (Enters e) (ap (λ (n : ℕ). make_locals c.args.p.now n (locals_of c.args.g.now.body) start) (sym site) ∙ sym inner)
           ∙ ap (λ (m : Memory). Enters (record e { entry = m }) (state c.args.g.now (record c.args.s.now { room = c.replace-vars.new.dest })))

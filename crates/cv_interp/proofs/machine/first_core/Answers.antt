@@ -32,6 +32,7 @@ returns-clause-good c =
     let first : state_in main c.args.world c.new-2.result.items c.in_ok-room.room
     ≡ make_locals P (local_site P c.args.number) (locals_of main.body) (record { vars = look c.in_ok-guest.guest.formals; memory = start_memory P args; world = c.args.world; output = [] }) =
     ap (λ (out : List ℕ). state_in main c.args.world out c.in_ok-room.room) c.new-2.ensures.items ∙ c.in_ok-room.ensures.state
+    ∙ ap (λ (n : ℕ). make_locals P n (locals_of main.body) (record { vars = look c.in_ok-guest.guest.formals; memory = c.in_ok-memory.field-0.memory; world = c.args.world; output = [] })) c.requires.site
     ∙ ap (λ (m : Memory). make_locals P (local_site P c.args.number) (locals_of main.body) (record { vars = look c.in_ok-guest.guest.formals; memory = m; world = c.args.world; output = [] })) memory in
     let few : length (start_memory P args) ≤ 2 ^ 62 =
     subst (λ (n : ℕ). n ≤ 2 ^ 62) (c.in_ok-memory.ensures.made.count ∙ ap length memory) c.in_ok-memory.ensures.made.few in
@@ -51,6 +52,7 @@ returns-clause-started c =
     let first : state_in main c.args.world c.new-2.result.items c.in_ok-room.room
     ≡ make_locals P (local_site P c.args.number) (locals_of main.body) (record { vars = look c.in_ok-guest.guest.formals; memory = start_memory P args; world = c.args.world; output = [] }) =
     ap (λ (out : List ℕ). state_in main c.args.world out c.in_ok-room.room) c.new-2.ensures.items ∙ c.in_ok-room.ensures.state
+    ∙ ap (λ (n : ℕ). make_locals P n (locals_of main.body) (record { vars = look c.in_ok-guest.guest.formals; memory = c.in_ok-memory.field-0.memory; world = c.args.world; output = [] })) c.requires.site
     ∙ ap (λ (m : Memory). make_locals P (local_site P c.args.number) (locals_of main.body) (record { vars = look c.in_ok-guest.guest.formals; memory = m; world = c.args.world; output = [] })) memory in
     let core : Core = record {
       alloc = c.args.alloc;

@@ -5,6 +5,7 @@ use Rattle.cv_interp.specs.Stack.{stack_of, waiting_level}
 use Rattle.cv_interp.specs.Seen.{frame}
 use Rattle.cv_interp.proofs.Behind.{back_good, back_plain, back_room, back_stands, back_turn, ends_behind, popped}
 use Rattle.cv_interp.proofs.Going.{at_small}
+use Rattle.cv_interp.proofs.Planned.{into_slot, line_there}
 use Rattle.cv_interp.proofs.machine.go_back.Goals as goal
 
 pub give_at-requires-clause-slot : goal.give_at-requires-clause-slot
@@ -45,3 +46,14 @@ pub returns-in-Some-clause-stands : goal.returns-in-Some-clause-stands
 returns-in-Some-clause-stands c =
     back_stands c.args.core.now (record c.args.core.now { waiting = c.pop.new.self; running = c.in-Some.waiting.activation; at = c.in-Some.waiting.at + 1; store = record c.args.core.now.store { room = c.give_at.new.room } }) c.in-Some.waiting c.args.answer c.in-Some.ensures.items c.requires.on refl refl refl
     (c.give_at.ensures.state (frame c.in-Some.waiting.activation) c.args.core.now.store.world c.args.core.now.store.output.items refl)
+
+pub line_at-requires : goal.line_at-requires
+line_at-requires c =
+    let w = (popped c.args.core.now c.pop.new.self.items c.in-Some.waiting c.requires.good c.in-Some.ensures.items).1 in
+    line_there c.args.core.now.program.now c.args.plans.now c.in-Some.waiting.activation.number c.in-Some.waiting.at c.in-Some.waiting.activation.proc.now w.call.stmt c.requires.plans w.active.proc w.call.there
+
+pub give_at-requires-clause-line : goal.give_at-requires-clause-line
+give_at-requires-clause-line c =
+    let w = (popped c.args.core.now c.pop.new.self.items c.in-Some.waiting c.requires.good c.in-Some.ensures.items).1 in
+    into_slot c.args.core.now.program.now c.args.plans.now c.in-Some.waiting.activation.number c.in-Some.waiting.at c.in-Some.waiting.activation.proc.now w.call.stmt c.line_at.result.now c.requires.plans
+    w.active.proc w.call.there w.call.call c.line_at.ensures
