@@ -98,25 +98,26 @@ PROGRAM
 
 text_of() { # PROCEDURES STATEMENTS: each procedure calls the one before it
     awk -v procs="$1" -v stmts="$2" 'BEGIN {
-        print "literal hello { 104, 105 };"
+        print "literal $s1 { 104, 105 };"
         line = 1
-        for (p = 0; p < procs; p++) {
-            name = p < procs - 1 ? "work" p : "main"
-            printf "%d: proc ptr %s(ptr s, pptr w)\nrequires s != null, *w != null;\nmodifies body(s), *w;\nensures base(result, s);\n", line++, name
+        for (p = 0; p < procs - 1; p++) {
+            printf "%d: proc ptr work%d(ptr s, pptr w)\nrequires s != null, *w != null;\nmodifies body(s), *w;\nensures base(result) == base(s);\n", line++, p
             printf "{\nint n;\nptr q;\nptr r;\nbuf b 64;\npcell c;\npptr v;\n"
             for (n = 0; n + 10 < stmts; n += 10) {
                 printf "%d: q = &b;\n%d: r = q + 1;\n%d: v = &c;\n%d: put v, r;\n", line, line, line, line
-                printf "%d: q = get w;\n%d: r = &hello;\n%d: put w, s;\n%d: q = malloc(n);\n%d: n = n + 1;\n", line, line, line, line, line
-                if (p > 0) printf "%d: r = work%d(q, v);\n", line, p - 1; else printf "%d: r = q;\n", line
+                printf "%d: q = get w;\n%d: r = &$s1;\n%d: put w, s;\n%d: q = call malloc(n);\n%d: n = n + 1;\n", line, line, line, line, line
+                if (p > 0) printf "%d: r = call work%d(q, v);\n", line, p - 1; else printf "%d: r = q;\n", line
                 line++
             }
             printf "%d: return s;\n}\n", line++
         }
+        printf "%d: proc int main()\n{\nptr q;\nbuf b 64;\npcell c;\npptr v;\n", line++
+        printf "%d: q = &b;\n%d: v = &c;\n%d: put v, q;\n%d: q = call work%d(q, v);\n%d: return 0;\n}\n", line, line, line, line, procs - 2, line
     }'
 }
 
 cd "$work/crates/points_bench"
-text_of 3 21 >"$work/text"
+text_of 4 21 >"$work/text"
 rt run -- "$work/text" 1 2 >"$work/build.log" 2>&1 || { cat "$work/build.log"; exit 1; }
 nanoseconds() { # of a run with so many calls
     local start end
