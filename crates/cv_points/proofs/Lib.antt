@@ -1,5 +1,6 @@
 pub mod Added
 pub mod Grown
+pub mod Kept
 pub mod Lacking
 pub mod Lists
 pub mod Merged

@@ -4,7 +4,7 @@ use Rattle.std.specs.List.{Contains}
 use Rattle.std.specs.Bool.{MatchBool}
 use Rattle.cv_core.specs.declared.program.Program.{Program}
 use Rattle.cv_points.specs.Closed.{Family, Holds, IsWithin}
-use Rattle.cv_points.specs.Growing.{AreRules, ArePlaces, Grows, IsSaturated, IsTable, Keeps, KeepsAll, Places, total}
+use Rattle.cv_points.specs.Growing.{AreRules, ArePlaces, Flows, Grows, IsSaturated, IsTable, Keeps, KeepsAll, Places, total}
 use Rattle.cv_points.specs.Holders.{holders}
 use Rattle.cv_points.specs.Least.{IsAscending, IsEmptyFamily, IsLeast}
 use Rattle.cv_points.specs.declared.rules.Rule.{Rule}
@@ -53,6 +53,24 @@ pub way_is_over : (cells : Places) (rules : List Rule) (S T U : Family) (more : 
 way_is_over cells rules S T U more e w g =
     let over = way_goes_on cells rules S T U more w g in
     record { table = over.table; keeps = still T U more (λ R. KeepsAll cells rules R) e g.change; within = over.within }
+
+-- ---- some of the rules before
+
+pub flows_not : (cells : Places) (rules : List Rule) (S : Family) → Flows cells rules S S
+flows_not cells rules S = record { table = λ count t. t; within = λ R w k. w }
+
+pub flows_then : (cells : Places) (rules : List Rule) (S T U : Family) → Flows cells rules S T → Flows cells rules T U → Flows cells rules S U
+flows_then cells rules S T U f g = record {
+  table = λ count t. g.table count (f.table count t);
+  within = λ R w k. g.within R (f.within R w k) k;
+}
+
+-- one rule of the list
+pub flows_once : (cells : Places) (rules : List Rule) (S T : Family) (more : Bool) (r : Rule) → Contains rules r → Grows S T more (λ R. Keeps cells R r) → Flows cells rules S T
+flows_once cells rules S T more r c g = record { table = g.table; within = λ R w k. g.within R w (k r c) }
+
+pub way_from : (cells : Places) (rules : List Rule) (S T : Family) → IsTable (length S) S → Flows cells rules S T → IsOnTheWay cells rules S T
+way_from cells rules S T t f = record { here = (let k = f.table (length S) t in subst (λ n. IsTable n T) (sym k.long) k); table = f.table; within = f.within }
 
 -- ---- the least family
 

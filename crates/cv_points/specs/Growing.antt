@@ -1,5 +1,5 @@
 -- The growth of a family until it keeps a list of rules, with the places of cells in a table by site.
-use Rattle.std.specs.Prelude.{Bool, Contains, List, MatchBool, None, Option, Some, [], length, slice_index_or, true, false, suc, ℕ, ◌+◌, ◌<◌, ◌≡◌, ◌∷◌, ◌^◌}
+use Rattle.std.specs.Prelude.{Bool, Contains, List, MatchBool, None, Option, Some, [], length, slice_index_or, true, false, suc, ℕ, ◌+◌, ◌<◌, ◌≡◌, ◌∷◌, ◌^◌, ◌⊎◌}
 use Rattle.cv_core.specs.declared.program.Program.{Program}
 use Rattle.cv_points.specs.Closed.{Family, IsClosed, IsSubset, IsWithin, Holds, set_at}
 use Rattle.cv_points.specs.Holders.{cell_place}
@@ -83,3 +83,21 @@ pub record IsSaturated (cells : Places) (rules : List Rule) (S T : Family) : Typ
   pub table : (count : ℕ) → IsTable count S → IsTable count T
   pub keeps : KeepsAll cells rules T
   pub within : (R : Family) → IsWithin S R → KeepsAll cells rules R → IsWithin T R
+
+-- S grew to T by some of the rules, to nothing but what they ask for
+pub record Flows (cells : Places) (rules : List Rule) (S T : Family) : Type 0 where
+  pub table : (count : ℕ) → IsTable count S → IsTable count T
+  pub within : (R : Family) → IsWithin S R → KeepsAll cells rules R → IsWithin T R
+
+-- ---- rules that are listed once
+
+-- one list has the rules of another
+pub record HaveSame (rules kept : List Rule) : Type 0 where
+  pub there : (r : Rule) → Contains rules r → Contains kept r
+  pub only : (r : Rule) → Contains kept r → Contains rules r
+
+-- a list with a rule that it may have had before
+pub record IsKeptIn (old new : List Rule) (rule : Rule) : Type 0 where
+  pub earlier : (r : Rule) → Contains old r → Contains new r
+  pub there : Contains new rule
+  pub only : (r : Rule) → Contains new r → Contains old r ⊎ (r ≡ rule)

@@ -1,13 +1,15 @@
 //! The least closed family.
-ghost use Rattle.std.specs.Prelude.{◌≡◌, IfOk, IfSome, length, ℕ};
+ghost use Rattle.std.specs.Prelude.{◌≡◌, IfOk, IfSome, OnOk, length, ℕ};
 ghost use Rattle.cv_points.specs.Closed.{Family, IsClosed, IsWithin, set_at};
-ghost use Rattle.cv_points.specs.Growing.{IsSaturated, IsTable};
+ghost use Rattle.cv_points.specs.Growing.{Flows, IsSaturated, IsTable};
 ghost use Rattle.cv_points.specs.Holders.{holders};
 ghost use Rattle.cv_points.specs.Least.{IsAscending, IsLeast};
 
 use crate::collect::all_rules;
-use crate::growth::{apply_all, empty_sets};
+use crate::distinct::distinct;
+use crate::growth::{apply, apply_all, empty_sets};
 use crate::holders::{first_holder, proc_count};
+use crate::marks::is_due;
 use crate::places::cell_places;
 use crate::rules::Rule;
 use crate::walk::cell_total;
@@ -31,7 +33,80 @@ fn holder_total(p: &Program) -> Option<usize>
     }
 }
 
-/// Lets sets grow by rules until they keep them all, in passes over the rules.
+/// Applies the rule of a number where the sets that it reads have grown, and says whether something was new.
+fn step(
+    alloc: Global,
+    cells: &[Option<usize>],
+    rules: &[Rule],
+    sizes: &mut [usize],
+    sets: &mut Vec<List<u32>>,
+    number: usize,
+) -> Result<bool, AllocError>
+    ensures { OnOk result (Flows cells.now rules.now sets.old.items sets.new.items) }
+{
+    match rules.get(number) {
+        None => Ok(false),
+        Some(rule) => {
+            if !is_due(cells, sets, sizes, *rule, number) {
+                return Ok(false);
+            }
+            let grew = apply(alloc, cells, sets, *rule)?;
+            Ok(grew)
+        }
+    }
+}
+
+/// Goes once through the rules, from the last to the first where `back` is true, and says whether something was new.
+fn pass(
+    alloc: Global,
+    cells: &[Option<usize>],
+    rules: &[Rule],
+    sizes: &mut [usize],
+    sets: &mut Vec<List<u32>>,
+    back: bool,
+) -> Result<bool, AllocError>
+    ensures { OnOk result (Flows cells.now rules.now sets.old.items sets.new.items) }
+{
+    let mut more = false;
+    for step_number in 0..rules.len() {
+        let number = if back {
+            rules.len() - 1 - step_number
+        } else {
+            step_number
+        };
+        let grew = step(alloc, cells, rules, sizes, sets, number)?;
+        more = more || grew;
+    }
+    Ok(more)
+}
+
+/// Lets sets grow by the rules whose sets have grown, forward and backward by turns, so that a chain of inclusions
+/// takes few passes whatever its direction.
+fn flow(
+    alloc: Global,
+    cells: &[Option<usize>],
+    rules: &[Rule],
+    sets: &mut Vec<List<u32>>,
+) -> Result<(), AllocError>
+    ensures { OnOk result (Flows cells.now rules.now sets.old.items sets.new.items) }
+{
+    let mut sizes = vec![in alloc; 0; rules.len()]?;
+    for round in 0..rules.len() {
+        if !pass(
+            alloc,
+            cells,
+            rules,
+            sizes.as_mut_slice(),
+            sets,
+            round % 2 == 1,
+        )? {
+            return Ok(());
+        }
+    }
+    Ok(())
+}
+
+/// Lets sets grow by rules until they keep them all: first each rule where it has cause, then in passes over all.
 fn saturated(
     alloc: Global,
     cells: &[Option<usize>],
@@ -42,6 +117,7 @@ fn saturated(
     ensures { IfOk result (λ sets. IsSaturated cells.now rules.now start.items sets.items) }
 {
     let mut sets = start;
+    flow(alloc, cells, rules, &mut sets)?;
     while apply_all(alloc, cells, &mut sets, rules)? {}
     Ok(sets)
 }
@@ -52,7 +128,8 @@ fn least_sets(alloc: Global, p: &Program, count: usize) -> Result<Vec<List<u32>>
     ensures { IfOk result (λ sets. IsLeast p.now sets.items) }
 {
     let cells = cell_places(alloc, p)?;
-    let rules = all_rules(alloc, p)?;
+    let listed = all_rules(alloc, p)?;
+    let rules = distinct(alloc, listed.as_slice())?;
     let start = empty_sets(alloc, count)?;
     let sets = saturated(alloc, cells.as_slice(), rules.as_slice(), start)?;
     Ok(sets)
@@ -74,8 +151,8 @@ fn least_family(alloc: Global, p: &Program) -> Result<PtsTable, AllocError>
 
 /// The least closed family of a program: one ascending set of sites for each holder, closed under the rules of
 /// inclusion after Andersen, and within every closed family that has as many sets. An error is want of memory.
-/// The rules of all statements are listed once and then gone through in passes, until a pass adds no site; a rule
-/// takes one walk over the ascending sets that it joins.
+/// The rules of all statements are listed, each once; a rule is applied again only where a set that it reads has
+/// grown, and takes one walk over the ascending sets that it joins. At the end all rules are tried once more.
 pub fn least(alloc: Global, p: &Program) -> Result<PtsTable, AllocError>
     ensures counted { IfOk result (λ table. length table ≡ holders p.now) }
     ensures ascending { IfOk result (λ table. (h : ℕ) → IsAscending (set_at table h)) }

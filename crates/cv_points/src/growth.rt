@@ -22,7 +22,7 @@ pub(crate) fn empty_sets(alloc: Global, count: usize) -> Result<Vec<List<u32>>, 
 }
 
 /// The set at a place, empty where there is none.
-fn set_in(sets: &Vec<List<u32>>, place: usize) -> &[u32]
+pub(crate) fn set_in(sets: &Vec<List<u32>>, place: usize) -> &[u32]
     ensures { result.now ≡ set_of sets.now.items place }
 {
     set_at(sets.as_slice(), place)
@@ -84,7 +84,7 @@ fn include(
 }
 
 /// The place of the set of the pointer cell at a site.
-fn cell_at(cells: &[Option<usize>], site: u32) -> Option<usize>
+pub(crate) fn cell_at(cells: &[Option<usize>], site: u32) -> Option<usize>
     ensures { result ≡ place_at cells.now site }
 {
     match cells.get(site as usize) {
@@ -182,7 +182,7 @@ fn copied(alloc: Global, sets: &Vec<List<u32>>, place: usize) -> Result<Vec<u32>
 }
 
 /// Puts what a rule asks for into the sets, and says whether something was new.
-fn apply(
+pub(crate) fn apply(
     alloc: Global,
     cells: &[Option<usize>],
     sets: &mut Vec<List<u32>>,

@@ -4,9 +4,11 @@
 
 mod check;
 mod collect;
+mod distinct;
 mod fixpoint;
 mod growth;
 mod holders;
+mod marks;
 mod merge;
 mod missing;
 mod place;

@@ -23,6 +23,10 @@ listed_is s = ap distinct (numbers_map (global_number s.program) s.proc.contract
 pub literals_is : (s : Setting) → distinct (numbers (keys s of.Literals)) ≡ literals s
 literals_is s = ap distinct (numbers_map (λ x. literal_in s.program x.form) (stmts_of s.proc.body))
 
+-- as a walk over the statements counts them
+pub counted_literals : (s t : Setting) (n : ℕ) → n ≡ length (distinct (numbers (keys s of.Literals))) → s ≡ t → n ≡ length (literals t)
+counted_literals s t n e f = e ∙ ap length (literals_is s) ∙ ap (λ x. length (literals x)) f
+
 -- ---- codes
 
 pub global_none : (s : Setting) (o : Option ℕ) (n : ℕ) (found : Option ℕ) → o ≡ Some n → found ≡ position (λ m. nat_eq m n) (distinct (numbers (keys s of.Listed))) → found ≡ None → 0 ≡ global_code s o
@@ -47,17 +51,17 @@ literal_some s o n k v count more left found e f some same long dropped is =
     is ∙ ap (λ xs. slice_index_or xs (more + k) 0) dropped ∙ get_or-drop count s.codes (more + k) 0 ∙ ap (λ j. slice_index_or s.codes j 0) whole
     ∙ sym (ap (literal_code s) e ∙ ap (λ k. code_at s.codes (option_map (λ j. formal_count s + length (listed s) + j) k)) (ap (position (λ m. nat_eq m n)) (sym (literals_is s)) ∙ sym f ∙ some))
 
-pub literals_there : (s : Setting) (count more many : ℕ) (one two three : List ℕ) → count ≡ formal_count s → more ≡ length (distinct (numbers (keys s of.Listed))) → many ≡ length (distinct (numbers (keys s of.Literals))) →
+pub literals_there : (s : Setting) (count more many : ℕ) (one two three : List ℕ) → count ≡ formal_count s → more ≡ length (distinct (numbers (keys s of.Listed))) → many ≡ length (literals s) →
     one ≡ drop count s.codes → two ≡ drop more one → three ≡ take many two → three ≡ literal_codes s
 literals_there s count more many one two three a b c d e f =
-    f ∙ ap (λ n. take n two) (c ∙ ap length (literals_is s))
+    f ∙ ap (λ n. take n two) c
     ∙ ap (take (length (literals s))) (e ∙ ap (drop more) d ∙ drop-drop more count s.codes ∙ ap (λ n. drop n s.codes) (let g : more ≡ length (listed s) = b ∙ ap length (listed_is s) in let h : count + more ≡ formal_count s + length (listed s) = omega (arith, a, g) in h))
 
-pub contents_there : (s : Setting) (count more many : ℕ) (one two three : List ℕ) → count ≡ formal_count s → more ≡ length (distinct (numbers (keys s of.Listed))) → many ≡ length (distinct (numbers (keys s of.Literals))) →
+pub contents_there : (s : Setting) (count more many : ℕ) (one two three : List ℕ) → count ≡ formal_count s → more ≡ length (distinct (numbers (keys s of.Listed))) → many ≡ length (literals s) →
     one ≡ drop count s.codes → two ≡ drop more one → three ≡ drop many two → three ≡ drop (first_content s) s.codes
 contents_there s count more many one two three a b c d e f =
     f ∙ ap (drop many) (e ∙ ap (drop more) d ∙ drop-drop more count s.codes) ∙ drop-drop many (count + more) s.codes
-    ∙ ap (λ n. drop n s.codes) (let g : more ≡ length (listed s) = b ∙ ap length (listed_is s) in let h : many ≡ length (literals s) = c ∙ ap length (literals_is s) in let k : count + more + many ≡ first_content s = omega (arith, a, g, h) in k)
+    ∙ ap (λ n. drop n s.codes) (let g : more ≡ length (listed s) = b ∙ ap length (listed_is s) in let h : many ≡ length (literals s) = c in let k : count + more + many ≡ first_content s = omega (arith, a, g, h) in k)
 
 -- ---- counts
 

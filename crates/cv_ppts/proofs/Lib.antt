@@ -1,3 +1,4 @@
+pub mod Contents
 pub mod Courses
 pub mod Found
 pub mod Members

@@ -5,7 +5,7 @@ use Rattle.cv_core.specs.Names.{stmts_of}
 use Rattle.cv_ppts.specs.Entities.{as_list, distinct_behind, global_number, is_member, literal_in}
 use Rattle.cv_ppts.specs.Setting.{Setting}
 use Rattle.cv_ppts.specs.declared.scope.Keys.{Keys}
-use Rattle.cv_ppts.specs.declared.scope.Scope.{Scope}
+use Rattle.cv_ppts.specs.declared.setting.Scope.{Scope}
 use Rattle.cv_ppts.specs.declared.scope.Keys.TheVariants as of
 
 abbrev pub setting : Scope → Setting

@@ -17,8 +17,8 @@ use crate::picks::{
     Codes, Picks, has_pick, is_failing, item_target, listed_cell, pick_at, starred_cell,
 };
 use crate::places::{as_code, callee, content_place, has_fresh, is_malloc, variable_number};
-use crate::scope::Scope;
 use crate::sets::{Missing, has_code, missing_code, set_at};
+use crate::setting::Scope;
 use cv_core::{AnyOperand, Atom, Bytes, Formal, Item, List, Operand, Proc, VarKind};
 
 /// Whether the set at a place has the code of a target.

@@ -14,10 +14,11 @@ use crate::codes::{Case, Targets};
 use crate::listing::proc_at;
 use crate::named::stmts_of;
 use crate::places::{allocates, cell_count, local_count, locals_of, new_target, pointer_count};
-use crate::scope::{Scope, block_count, cell_blocks, content_codes, formals_of};
+use crate::scope::{block_count, cell_blocks, content_codes, formals_of, scope_of};
 use crate::sets::{
     Missing, Rule, missing_by, missing_coded, missing_unknown, place_of_variable, plain_rule,
 };
+use crate::setting::Scope;
 use cv_core::{AnyOperand, Bytes, Form, List, Proc, Program, Stmt};
 
 // ---- the codes at entry
@@ -233,11 +234,7 @@ pub fn targets_closed(p: &Program, proc: u32, case: &Case, targets: &Targets) ->
     match proc_at(p, proc as usize) {
         None => true,
         Some(f) => is_closed(
-            &Scope {
-                p,
-                f,
-                codes: case.codes.as_slice(),
-            },
+            &scope_of(p, f, case.codes.as_slice()),
             targets.sets.as_slice(),
         ),
     }

@@ -10,9 +10,10 @@ ghost use Rattle.cv_ppts.specs.Targets.{AreClosedFor, AreLeast, AreLeastFor, IsA
 use crate::codes::{Case, Targets};
 use crate::growth::{empty_sets, pass};
 use crate::listing::proc_at;
-use crate::places::set_count;
+use crate::places::{all_contents, set_count};
 use crate::plan::{Plan, all_rules, all_targets};
-use crate::scope::Scope;
+use crate::scope::scope_of;
+use crate::setting::Scope;
 use cv_core::{List, Program};
 use std::alloc::{AllocError, Global};
 
@@ -65,7 +66,15 @@ fn closed_sets(alloc: Global, s: &Scope, count: usize) -> Result<Vec<List<i32>>,
         rules: rules.as_slice(),
         targets: targets.as_slice(),
     };
-    let sets = grown(alloc, s, &plan, count)?;
+    let contents = all_contents(alloc, s)?;
+    let listed = Scope {
+        p: s.p,
+        f: s.f,
+        codes: s.codes,
+        literal_count: s.literal_count,
+        contents: contents.as_slice(),
+    };
+    let sets = grown(alloc, &listed, &plan, count)?;
     Ok(sets)
 }
 
@@ -92,7 +101,7 @@ fn least_targets(
     match proc_at(p, proc) {
         None => Ok(Vec::new(alloc)),
         Some(f) => {
-            let sets = least_sets(alloc, &Scope { p, f, codes })?;
+            let sets = least_sets(alloc, &scope_of(p, f, codes))?;
             Ok(sets)
         }
     }

@@ -10,8 +10,8 @@ ghost use Rattle.cv_ppts.specs.Targets.{AreClosed, HoldsAt};
 use crate::closed::missing_at_entry;
 use crate::named::stmts_of;
 use crate::plan::{Plan, missing_by_plan};
-use crate::scope::Scope;
 use crate::sets::Missing;
+use crate::setting::Scope;
 use cv_core::List;
 use std::alloc::{AllocError, Global};
 

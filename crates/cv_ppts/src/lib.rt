@@ -19,6 +19,7 @@ mod plan;
 mod scope;
 mod search;
 mod sets;
+mod setting;
 
 pub use closed::targets_closed;
 pub use codes::{Case, CaseError, Targets};

@@ -8,7 +8,7 @@ ghost use Rattle.cv_points.specs.Holders.{gives_pointer as pointer_result};
 
 use crate::picks::{Codes, cell_of, code_of, code_of_name, is_modified, object_in};
 use crate::places::content_place;
-use crate::scope::Scope;
+use crate::setting::Scope;
 use cv_core::{Atom, LinPart, Proc, PtrTerm, ResultKind, Term};
 
 /// The code of a pointer after a call.

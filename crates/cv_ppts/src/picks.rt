@@ -12,7 +12,8 @@ use crate::allowed::{code_at, formal_count};
 use crate::blocks::same_class;
 use crate::entities::Class;
 use crate::named::{class_of_global_number, global_number, is_pointer_kind};
-use crate::scope::{Scope, block_count, cell_blocks, content_codes, global_code, literal_codes};
+use crate::scope::{block_count, cell_blocks, content_codes, global_code, literal_codes};
+use crate::setting::Scope;
 use cv_core::{Bytes, Formal, Item, Proc, PtrTerm, VarKind};
 
 /// Codes that were picked, by key, the latest first.

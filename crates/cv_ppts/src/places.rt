@@ -1,17 +1,19 @@
 //! The places of the sets of codes, and the targets of statements.
-ghost use Rattle.std.specs.Prelude.{◌≡◌, ◌+◌, ◌<◌, ◌≤◌, ◌^◌, bytes_eq, codes as text, count_by, filter, find, is_some, length, map, option_copied, pos, slice_index_or, take};
+ghost use Rattle.std.specs.Prelude.{◌≡◌, ◌+◌, ◌<◌, ◌≤◌, ◌^◌, IfOk, bytes_eq, codes as text, count_by, filter, find, is_some, length, map, option_copied, pos, slice_index_or, take};
 ghost use Rattle.std.specs.List.{list_any};
 ghost use Rattle.cv_core.specs.Meant.{built_in as built_in_of, called as called_of};
 ghost use Rattle.cv_core.specs.Names.{is_object as object, locals_of as locals_in, objects_of, place_of, stmts_of as stmts_in};
 ghost use Rattle.cv_points.specs.Holders.{is_pointer_cell as pointer_cell, is_pointer_local as pointer_local, pointer_count as pointer_count_of, variable_number as variable_number_of};
 ghost use Rattle.cv_ppts.specs.Keys.{setting};
 ghost use Rattle.cv_ppts.specs.Plain.{content_in as content_in_of};
-ghost use Rattle.cv_ppts.specs.Setting.{allocates as allocates_of, block_content as block_content_of, callee as callee_in, cell_number as cell_number_of, content_place as content_place_of, gives_fresh as gives_fresh_of, is_fresh as is_fresh_of, new_target as new_target_of, object_cells, object_content as object_content_of, set_count as set_count_of, target_of_name as target_of_name_in};
+ghost use Rattle.cv_ppts.specs.Setting.{AreContents, allocates as allocates_of, block_content as block_content_of, callee as callee_in, cell_number as cell_number_of, content_place as content_place_of, gives_fresh as gives_fresh_of, is_fresh as is_fresh_of, new_target as new_target_of, object_cells, object_content as object_content_of, set_count as set_count_of, target_of_name as target_of_name_in};
 
 use crate::allowed::{formal_count, formal_number};
 use crate::named::{global_number, is_pointer_kind, literal_named, stmts_of};
-use crate::scope::{Scope, block_count, cell_blocks, global_code, is_cell_block, literal_code};
+use crate::scope::{block_count, cell_blocks, global_code, is_cell_block, literal_code};
+use crate::setting::Scope;
 use cv_core::{Atom, Bytes, Form, List, Local, LocalBody, Proc, Program, Stmt};
+use std::alloc::{AllocError, Global};
 
 fn is_pointer_local(body: LocalBody) -> bool
     ensures { result ≡ pointer_local body }
@@ -157,8 +159,8 @@ fn object_content(s: &Scope, place: u128) -> Option<u128>
     }
 }
 
-/// The place of the set of what a target holds; None where it is no pointer cell.
-pub(crate) fn content_place(s: &Scope, target: u128) -> Option<u128>
+/// The place of the set of what a target holds, by a walk over the names that stand for blocks.
+fn searched_content(s: &Scope, target: u128) -> Option<u128>
     ensures { result ≡ content_place_of (setting s.entry.now) target }
 {
     let blocks = u128::from(block_count(s));
@@ -167,6 +169,41 @@ pub(crate) fn content_place(s: &Scope, target: u128) -> Option<u128>
     } else {
         object_content(s, target - blocks - 1)
     }
+}
+
+/// The place of the set of what a target holds, which is known.
+fn known_content(s: &Scope, target: usize) -> Option<u128>
+    requires { target < length s.now.contents.now }
+    ensures { result ≡ content_place_of (setting s.entry.now) target }
+{
+    s.contents[target]
+}
+
+/// The place of the set of what a target holds; None where it is no pointer cell.
+pub(crate) fn content_place(s: &Scope, target: u128) -> Option<u128>
+    ensures { result ≡ content_place_of (setting s.entry.now) target }
+{
+    if target < s.contents.len() as u128 {
+        known_content(s, target as usize)
+    } else {
+        searched_content(s, target)
+    }
+}
+
+/// Of how many targets the places are listed: of all in a procedure within the limits.
+fn listed_targets(s: &Scope) -> usize {
+    new_target(s, stmts_of(s.f).len()).min(4096) as usize
+}
+
+/// The places of the sets of what the first targets hold.
+pub(crate) fn all_contents(alloc: Global, s: &Scope) -> Result<Vec<Option<u128>>, AllocError>
+    ensures { IfOk result (λ v. AreContents (setting s.entry.now) v.items) }
+{
+    let mut contents = Vec::new(alloc);
+    for target in 0..listed_targets(s) {
+        contents.push(searched_content(s, target as u128))?;
+    }
+    Ok(contents)
 }
 
 /// The place of the set of what the target of a code holds.

@@ -11,8 +11,8 @@ ghost use Rattle.cv_ppts.specs.Targets.{HoldsAt};
 use crate::closed::{missing_for, statement_at};
 use crate::named::stmts_of;
 use crate::places::{allocates, new_target};
-use crate::scope::Scope;
 use crate::sets::{Missing, Rule, plain_rule};
+use crate::setting::Scope;
 use cv_core::List;
 use std::alloc::{AllocError, Global};
 

@@ -1,7 +1,7 @@
-//! A case as a procedure's statements see it: its entities and blocks.
+//! The entities and blocks of a case.
 ghost use Rattle.std.specs.Prelude.{◌≡◌, ◌+◌, ◌<◌, ◌≤◌, MatchBool, None as Nothing, Some, drop, filter, length, map, nat_eq, position, slice_index_or};
 ghost use Rattle.cv_points.specs.Holders.{is_pointer_kind as pointer_kind, pointer_formals};
-ghost use Rattle.cv_ppts.specs.Entities.{as_list, class_of_kind as class_of_variable, distinct as distinct_of, is_member as is_member_of};
+ghost use Rattle.cv_ppts.specs.Entities.{as_list, class_of_kind as class_of_variable, distinct as distinct_of, is_member as is_member_of, literals_of};
 ghost use Rattle.cv_ppts.specs.Keys.{keys as keys_of, later_numbers, new_number, numbers, seen_numbers, setting};
 ghost use Rattle.cv_ppts.specs.Setting.{block_class as block_class_of, block_count as block_count_of, cell_blocks as cell_blocks_of, class_or as class_or_of, class_with, first_content as first_content_of, global_code as global_code_of, global_classes, greatest as greatest_of, is_cell_block as is_cell_block_of, listed, literal_code as literal_code_of, literal_codes as literal_codes_of};
 
@@ -11,16 +11,8 @@ use crate::entities::Class;
 use crate::named::{
     class_of_global_number, class_of_kind, global_number, is_pointer_kind, literal_in, stmts_of,
 };
+use crate::setting::Scope;
 use cv_core::{Formal, Proc, Program};
-
-/// A case as a procedure's statements see it.
-#[derive(Drop)]
-pub(crate) struct Scope<'a> {
-    pub p: &'a Program,
-    pub f: &'a Proc,
-    /// The codes of the entities.
-    pub codes: &'a [u32],
-}
 
 /// What stands for an entity each time that it is named.
 #[derive(Clone, Copy, PartialEq, Eq, Debug)]
@@ -134,6 +126,48 @@ fn number_place(s: &Scope, which: Keys, number: usize) -> Option<usize>
     None
 }
 
+/// A case of which nothing is known beside its codes.
+fn bare_scope<'a>(p: &'a Program, f: &'a Proc, codes: &'a [u32]) -> Scope<'a>
+    ensures { setting result ≡ record { program = p.now; proc = f.now; codes = codes.now } }
+{
+    Scope {
+        p,
+        f,
+        codes,
+        literal_count: None,
+        contents: &[],
+    }
+}
+
+fn count_of_literals(p: &Program, f: &Proc) -> usize
+    ensures { result ≡ length (literals_of p.now f.now) }
+{
+    number_count(&bare_scope(p, f, &[]), Keys::Literals)
+}
+
+/// A case as the statements see it, with the literals that they name counted.
+pub(crate) fn scope_of<'a>(p: &'a Program, f: &'a Proc, codes: &'a [u32]) -> Scope<'a>
+    ensures { setting result ≡ record { program = p.now; proc = f.now; codes = codes.now } }
+{
+    Scope {
+        p,
+        f,
+        codes,
+        literal_count: Some(count_of_literals(p, f)),
+        contents: &[],
+    }
+}
+
+/// How many literals the statements name.
+fn literal_count(s: &Scope) -> usize
+    ensures { result ≡ length (literals_of s.entry.now.p.now s.entry.now.f.now) }
+{
+    match s.literal_count {
+        Some(count) => count,
+        None => count_of_literals(s.p, s.f),
+    }
+}
+
 /// How many pointer formals the procedure has.
 pub(crate) fn formals_of(s: &Scope) -> usize
     ensures { result ≡ length (pointer_formals s.entry.now.f.now) }
@@ -180,7 +214,7 @@ pub(crate) fn literal_codes<'a>(s: &Scope<'a>) -> &'a [u32]
             behind(s.codes, formals_of(s)),
             number_count(s, Keys::Listed),
         ),
-        number_count(s, Keys::Literals),
+        literal_count(s),
     )
 }
 
@@ -193,7 +227,7 @@ pub(crate) fn content_codes<'a>(s: &Scope<'a>) -> &'a [u32]
             behind(s.codes, formals_of(s)),
             number_count(s, Keys::Listed),
         ),
-        number_count(s, Keys::Literals),
+        literal_count(s),
     )
 }
 

@@ -8,7 +8,7 @@ ghost use Rattle.cv_ppts.specs.Plain.{HasCode, Holds, Includes, MaybeHolds, Move
 
 use crate::allowed::code_at;
 use crate::places::{as_code, content_in, target_of_name, variable_number};
-use crate::scope::Scope;
+use crate::setting::Scope;
 use cv_core::{AnyOperand, Bytes, Form, List, Operand};
 
 /// A rule on the sets of codes, which are given by their places.

@@ -1,5 +1,9 @@
-use Rattle.cv_points.proofs.Saturated.{way_ends, way_goes_on, way_is_over}
+use Rattle.cv_points.proofs.Saturated.{way_ends, way_from, way_goes_on, way_is_over}
 use Rattle.cv_points.proofs.fixpoint.saturated.Goals as goal
+
+pub loop-sets-init : goal.loop-sets-init
+loop-sets-init c =
+    way_from c.args.cells.now c.args.rules.now c.args.start.items c.flow.new.sets.items c.requires c.in_ok-flow.ensures
 
 pub loop-sets-smaller : goal.loop-sets-smaller
 loop-sets-smaller c =

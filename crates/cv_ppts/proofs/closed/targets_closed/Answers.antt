@@ -1,4 +1,5 @@
-use Rattle.std.proofs.Common.{ap, sym, ◌∙◌}
+use Rattle.std.proofs.Common.{ap, subst, sym, ◌∙◌, IsTrue, ◌↔◌}
+use Rattle.cv_ppts.specs.Targets.{AreClosed}
 use Rattle.std.specs.Option.{option_copied}
 use Rattle.cv_ppts.proofs.Closing.{closed_none, closed_some}
 use Rattle.cv_ppts.proofs.closed.targets_closed.Goals as goal
@@ -8,4 +9,7 @@ returns-in-None c = record { closed = closed_none c.args.p.now c.args.proc c.arg
 
 pub returns-in-Some : goal.returns-in-Some
 returns-in-Some c =
-    record { closed = closed_some c.args.p.now c.args.proc c.in-Some.f.now _ _ _ _ c.is_closed.result (sym c.proc_at.ensures.value ∙ ap option_copied c.in-Some.is) c.as_slice.ensures c.as_slice-in-Some.ensures c.is_closed.ensures }
+    record {
+      closed = closed_some c.args.p.now c.args.proc c.in-Some.f.now _ _ _ _ c.is_closed.result (sym c.proc_at.ensures.value ∙ ap option_copied c.in-Some.is) c.as_slice.ensures c.as_slice-in-Some.ensures
+          (subst (λ s. IsTrue c.is_closed.result ↔ AreClosed s c.as_slice-in-Some.result.now) c.scope_of.ensures c.is_closed.ensures);
+    }
