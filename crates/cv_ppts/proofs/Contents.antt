@@ -1,5 +1,5 @@
 -- A list of what the first targets hold, with one more.
-use Rattle.std.proofs.Common.{refl, ℕ, zero, suc, ◌≡◌, ◌<◌, ◌+◌, List, [], ◌∷◌, ◌++◌, length, slice_index_or, subst, sym, ◌∙◌, arith, Option, None}
+use Rattle.std.proofs.Common.{refl, ℕ, zero, suc, ◌≡◌, ◌<◌, ◌+◌, List, [], ◌∷◌, ◌++◌, length, slice_index_or, subst, sym, arith, Option, None}
 use Rattle.cv_ppts.specs.Setting.{AreContents, Setting, content_place}
 
 longer : (xs : List (Option ℕ)) (y : Option ℕ) → length (xs ++ y ∷ []) ≡ length xs + 1

@@ -1,6 +1,6 @@
 -- A case as a procedure's statements see it: its targets, and the places of the sets of codes. Targets are numbered
 -- from 1: the blocks, the local objects, and a buffer for each statement that allocates.
-use Rattle.std.specs.Prelude.{Bool, IfSome, List, None, Option, Some, [], bytes_eq, codes as text, count_by, drop, false, if◌then◌else◌, is_some, length, map, max, nat_eq, nat_le, option_map, slice_get, slice_index_or, suc, take, true, zero, ℕ, ◌+◌, ◌-◌, ◌||◌, ◌∷◌, ◌≡◌, ◌<◌}
+use Rattle.std.specs.Prelude.{Bool, List, None, Option, Some, [], bytes_eq, codes as text, count_by, drop, false, if◌then◌else◌, is_some, length, map, max, nat_eq, nat_le, option_map, slice_get, slice_index_or, suc, take, true, zero, ℕ, ◌+◌, ◌-◌, ◌||◌, ◌∷◌, ◌≡◌, ◌<◌}
 use Rattle.std.specs.List.{list_any}
 use Rattle.cv_core.specs.Meant.{built_in, called}
 use Rattle.cv_core.specs.Names.{Name, objects_of, place_of, stmts_of}
@@ -154,5 +154,5 @@ abbrev pub AreContents : Setting → List (Option ℕ) → Type 0
 AreContents s places = (t : ℕ) → t < length places → slice_index_or places t None ≡ content_place s t
 
 pub record IsKnown (s : Setting) (count : Option ℕ) (places : List (Option ℕ)) : Type 0 where
-  pub literals : IfSome count (λ n. n ≡ length (literals_of s.program s.proc))
+  pub literals : (n : ℕ) → count ≡ Some n → n ≡ length (literals_of s.program s.proc)
   pub contents : AreContents s places
