@@ -3,8 +3,9 @@ ghost use Rattle.cv_core.specs.Grammar.{IsAtom, IsContract, IsForm, IsItem, IsLo
 
 use crate::{Case, CaseError, Targets, cases, targets, targets_closed};
 use cv_core::{
-    AnyOperand, Atom, Bytes, Contract, Form, Formal, Item, List, Literal, Local, LocalBody,
-    Operand, Proc, ProcBody, Program, PtrTerm, PtsTable, ResultKind, Stmt, VarKind,
+    AnyOperand, Atom, Bytes, Contract, Form, Formal, GlobalBody, GlobalDecl, Item, List, Literal,
+    Local, LocalBody, Operand, Proc, ProcBody, Program, PtrTerm, PtsTable, ResultKind, Stmt,
+    VarKind,
 };
 use std::alloc::{AllocError, Global};
 use std::test::Fail;
@@ -353,6 +354,74 @@ fn one_case_more(rt: HostRuntime) -> Result<(), Fail> {
 }
 
 // ---- codes
+
+/// A contract that lists the global g.
+fn listing(alloc: Global) -> Result<Contract, AllocError>
+    ensures { IfOk result IsContract }
+{
+    let text = name(alloc, b"g".as_slice())?;
+    let mut listed = none(alloc);
+    listed.push(text)?;
+    Ok(Contract {
+        listed,
+        needs: none(alloc),
+        changes: none(alloc),
+        gives: none(alloc),
+    })
+}
+
+/// A program with the pointer global g.
+fn with_global(alloc: Global, made: Program) -> Result<Program, AllocError> {
+    let text = name(alloc, b"g".as_slice())?;
+    let mut globals = none(alloc);
+    globals.push(GlobalDecl {
+        name: text,
+        body: GlobalBody::Pointer,
+    })?;
+    let Program {
+        globals: _,
+        literals,
+        procs,
+    } = made;
+    Ok(Program {
+        globals,
+        literals,
+        procs,
+    })
+}
+
+/// A program of one procedure without statements that lists g, with the formal `pptr w`.
+fn reaching(alloc: Global) -> Result<Program, AllocError> {
+    let mut formals = none(alloc);
+    put_formal(alloc, &mut formals, VarKind::Pptr, b"w".as_slice())?;
+    let made = program(alloc, formals, listing(alloc)?, none(alloc), none(alloc))?;
+    let all = with_global(alloc, made)?;
+    Ok(all)
+}
+
+/// The set of w, where nothing else points.
+fn pointing(alloc: Global, site: u32) -> Result<PtsTable, AllocError> {
+    let mut sets = none(alloc);
+    sets.push(List::from_slice(alloc, [site].as_slice())?)?;
+    Ok(PtsTable { sets })
+}
+
+#[test]
+fn global_that_a_formal_reaches(rt: HostRuntime) -> Result<(), Fail> {
+    let alloc = rt.alloc();
+    let p = reaching(alloc)?;
+    // w, g, and then what the cells hold: the cell g has the site 1, and holds null
+    let found = cases(alloc, &p, 0, &pointing(alloc, 1)?)?;
+    assert_eq!(rt; found.len(), 3);
+    assert!(rt; is_case(found.get(0), &[0, 1, 0]));
+    assert!(rt; is_case(found.get(1), &[1, 1, 0]));
+    assert!(rt; is_case(found.get(2), &[1, 2, 0, 0]));
+    // with another site w is a cell of its own
+    let others = cases(alloc, &p, 0, &pointing(alloc, 2)?)?;
+    assert_eq!(rt; others.len(), 2);
+    assert!(rt; is_case(others.get(1), &[1, 2, 0, 0]));
+    Ok(())
+}
 
 fn case(alloc: Global, codes: &[u32]) -> Result<Case, AllocError> {
     let codes = List::from_slice(alloc, codes)?;
