@@ -2,7 +2,7 @@
 # How `least` of cv_points and `cases` and `targets` of cv_ppts grow with the procedures of a program and their
 # statements. Makes a scratch program outside the repository from the text below, proves and builds it over a copy of
 # the crates, and times it over generated CoreC text. `least` is called REPEATS times, `cases` once for each procedure,
-# and `targets` once for each case; the time of a run that only reads the text is taken off.
+# and `targets` once for each case of the first eight; the time of a run that does all but the call is taken off.
 #
 #   bench/points.sh [REPEATS]        (1 where none is given)
 set -eu
@@ -22,7 +22,8 @@ grep -E '^(cv_list|cv_core|cv_lex|cv_reading|cv_text|cv_points|cv_ppts):' "$here
 echo 'points_bench: cv_core cv_text cv_points cv_ppts anyhow' >>"$work/crates.txt"
 
 cat >"$work/crates/points_bench/src/main.rt" <<'PROGRAM'
-//! Reads a program, and then calls `least` so many times, and `cases` and `targets` of its procedures.
+//! Reads a program, and then calls `least` so many times, `cases` of so many of its procedures, and `targets` of the
+//! cases of so many.
 #![tactic(auto)]
 
 use anyhow::{Result, bail};
@@ -34,47 +35,54 @@ use std::alloc::Global;
 use std::rt::Files;
 use std::{env, fs};
 
-/// How many cases the procedure of a number has, and how many sets of codes they have, where they are asked for.
+/// How many procedures each call is made for, and how often `least` is called.
+#[derive(Drop)]
+struct Counts {
+    least: u32,
+    cases: u32,
+    targets: u32,
+}
+
+/// How many cases the procedure of a number has, whose targets are asked for too where that is wanted.
 fn of_procedure(
     alloc: Global,
     program: &Program,
     proc: u32,
     table: &PtsTable,
     with_targets: bool,
-) -> Result<(usize, usize)> {
+) -> Result<usize> {
     let Ok(found) = cases(alloc, program, proc, table) else {
         bail!("no list of cases");
     };
-    let mut sets: usize = 0;
     if with_targets {
         for case in &found {
-            sets = sets.wrapping_add(targets(alloc, program, proc, case)?.sets.len());
+            let sets = targets(alloc, program, proc, case)?;
+            if sets.sets.is_empty() {
+                bail!("no sets");
+            }
         }
     }
-    Ok((found.len(), sets))
+    Ok(found.len())
 }
 
-fn run(rt: &(impl Print + Files), alloc: Global, text: &[u8], least_calls: u32, codes: u32) -> Result<()> {
+fn run(rt: &(impl Print + Files), alloc: Global, text: &[u8], counts: &Counts) -> Result<()> {
     if text.len() >= 4294967295 {
         bail!("too long");
     }
     let Ok(program) = read_core(alloc, text) else {
         bail!("no CoreC text");
     };
-    for _ in 0..least_calls {
+    for _ in 0..counts.least {
         rt.println(least(alloc, &program)?.sets.len())?;
     }
-    if codes > 0 {
+    if counts.cases > 0 {
         let table = least(alloc, &program)?;
         let mut all: usize = 0;
-        let mut sets: usize = 0;
-        for proc in 0..1000u32 {
-            let (some, more) = of_procedure(alloc, &program, proc, &table, codes > 1)?;
+        for proc in 0..counts.cases {
+            let some = of_procedure(alloc, &program, proc, &table, proc < counts.targets)?;
             all = all.wrapping_add(some);
-            sets = sets.wrapping_add(more);
         }
         rt.println(all)?;
-        rt.println(sets)?;
     }
     Ok(())
 }
@@ -82,8 +90,8 @@ fn run(rt: &(impl Print + Files), alloc: Global, text: &[u8], least_calls: u32, 
 fn main(rt: HostRuntime) -> Result<()> {
     let words = env::args(&rt)?;
     let mut path = String::new(rt.alloc());
-    let mut numbers = [0u32; 2];
-    for (place, word) in words.skip(1).take(3).enumerate() {
+    let mut numbers = [0u32; 3];
+    for (place, word) in words.skip(1).take(4).enumerate() {
         if place == 0 {
             path.push_str(word.as_str())?;
         } else if let (Some(slot), Ok(number)) = (numbers.get_mut(place - 1), word.as_str().parse::<u32>()) {
@@ -91,8 +99,13 @@ fn main(rt: HostRuntime) -> Result<()> {
         }
     }
     let text = fs::read(&rt, path.as_str())?;
-    let [least_calls, codes] = numbers;
-    run(&rt, rt.alloc(), text.as_slice(), least_calls, codes)
+    let [least, cases, targets] = numbers;
+    let counts = Counts {
+        least,
+        cases,
+        targets,
+    };
+    run(&rt, rt.alloc(), text.as_slice(), &counts)
 }
 PROGRAM
 
@@ -118,7 +131,7 @@ text_of() { # PROCEDURES STATEMENTS: each procedure calls the one before it
 
 cd "$work/crates/points_bench"
 text_of 4 21 >"$work/text"
-rt run -- "$work/text" 1 2 >"$work/build.log" 2>&1 || { cat "$work/build.log"; exit 1; }
+rt run -- "$work/text" 1 4 4 >"$work/build.log" 2>&1 || { cat "$work/build.log"; exit 1; }
 nanoseconds() { # of a run with so many calls
     local start end
     start=$(date +%s%N)
@@ -126,15 +139,17 @@ nanoseconds() { # of a run with so many calls
     end=$(date +%s%N)
     echo $((end - start))
 }
-echo "procedures  statements of each  milliseconds of a call of least, of cases of all, of targets of all cases"
+echo "procedures  statements of each  milliseconds of a call of least, of cases, of targets"
 for shape in "64 250" "128 250" "256 250" "64 1000" "256 1000"; do
     set -- $shape
     text_of "$1" "$2" >"$work/text"
-    idle=$(nanoseconds 0 0)
-    least=$(nanoseconds "$repeats" 0)
-    once=$(nanoseconds 1 0)
-    cases=$(nanoseconds 0 1)
-    targets=$(nanoseconds 0 2)
-    awk -v p="$1" -v s="$2" -v i="$idle" -v n="$repeats" -v l="$least" -v o="$once" -v c="$cases" -v t="$targets" \
-        'BEGIN { printf "%d  %d  %.1f  %.1f  %.1f\n", p, s, (l - i) / n / 1000000, (c - o) / 1000000, (t - c) / 1000000 }'
+    idle=$(nanoseconds 0 0 0)
+    least=$(nanoseconds "$repeats" 0 0)
+    once=$(nanoseconds 1 0 0)
+    cases=$(nanoseconds 0 "$1" 0)
+    few=$(nanoseconds 0 8 0)
+    targets=$(nanoseconds 0 8 8)
+    calls=$(./out/points_bench "$work/text" 0 8 0)
+    awk -v p="$1" -v s="$2" -v i="$idle" -v n="$repeats" -v l="$least" -v o="$once" -v c="$cases" -v f="$few" -v t="$targets" -v k="$calls" \
+        'BEGIN { printf "%d  %d  %.1f  %.3f  %.1f\n", p, s, (l - i) / n / 1000000, (c - o) / p / 1000000, (t - f) / k / 1000000 }'
 done
