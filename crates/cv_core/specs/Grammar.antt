@@ -1,5 +1,5 @@
 -- What a program's text alone asks of its tree: names, ranges of numbers, and lists that are not empty.
-use Rattle.std.specs.Prelude.{ℕ, zero, suc, ◌<◌, ◌≤◌, ◌^◌, Bool, true, false, not, ◌&&◌, ◌||◌, IsTrue, nat_le, List, [], ◌∷◌, length, codes, Option, Some, None, ℤ, pos, ◌≤ℤ◌}
+use Rattle.std.specs.Prelude.{ℕ, zero, suc, ◌<◌, ◌≤◌, ◌^◌, Bool, true, false, not, ◌&&◌, ◌||◌, IsTrue, nat_le, List, [], ◌∷◌, length, codes, Option, Some, None, ℤ, pos, negsuc, ◌≤ℤ◌}
 use Rattle.std.specs.List.{list_all, list_any, All}
 use Rattle.std.specs.Str.{bytes_eq}
 use Rattle.cv_core.specs.declared.program.GlobalDecl.{GlobalDecl}
@@ -73,11 +73,17 @@ IsSize n = (1 ≤ n) × (n < 2 ^ 31)
 abbrev pub IsDigits : ℕ → Type 0
 IsDigits n = n < 2 ^ 31
 
+abbrev pub IsInt : ℤ → Type 0
+IsInt z = (negsuc 2147483647 ≤ℤ z) × (z ≤ℤ pos 2147483647)
+
+abbrev pub AreBytes : List ℕ → Type 0
+AreBytes bytes = All (λ b. b < 256) bytes
+
 -- ---- statements
 
 abbrev pub IsOperand : Operand → Type 0
 IsOperand (operand.Var x) = IsName x
-IsOperand (operand.Number z) = Unit {0}
+IsOperand (operand.Number z) = IsInt z
 
 abbrev pub IsAnyOperand : AnyOperand → Type 0
 IsAnyOperand (any.Operand e) = IsOperand e
@@ -98,9 +104,9 @@ abbrev pub IsForm : Form → Type 0
 IsForm (form.Assign x e) = IsName x × IsOperand e
 IsForm (form.Sum x e f) = IsName x × IsOperand e × IsOperand f
 IsForm (form.Minus x e f) = IsName x × IsOperand e × IsOperand f
-IsForm (form.Product x k e) = IsName x × IsOperand e
-IsForm (form.Quotient x e k) = IsName x × IsOperand e × (pos 1 ≤ℤ k)
-IsForm (form.Remainder x e k) = IsName x × IsOperand e × (pos 1 ≤ℤ k)
+IsForm (form.Product x k e) = IsName x × IsOperand e × IsInt k
+IsForm (form.Quotient x e k) = IsName x × IsOperand e × (pos 1 ≤ℤ k) × IsInt k
+IsForm (form.Remainder x e k) = IsName x × IsOperand e × (pos 1 ≤ℤ k) × IsInt k
 IsForm (form.CopyPtr p q) = IsName p × IsMaybeName q
 IsForm (form.Address p a) = IsName p × IsName a
 IsForm (form.Shift p q e) = IsName p × IsName q × IsOperand e
@@ -206,5 +212,5 @@ pub record IsProc (p : Proc) : Type 0 where
 
 pub record IsWritten (t : Tree) : Type 0 where
   pub globals : All (λ g. IsName g.name × IsGlobalBody g.body) t.globals
-  pub literals : All (λ l. IsName l.name) t.literals
+  pub literals : All (λ l. IsName l.name × AreBytes l.bytes) t.literals
   pub procs : All IsProc t.procs

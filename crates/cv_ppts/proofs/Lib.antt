@@ -2,7 +2,6 @@ pub mod Contents
 pub mod Courses
 pub mod Found
 pub mod Members
-pub mod Numbered
 pub mod Peeled
 pub mod Spliced
 pub mod Terms

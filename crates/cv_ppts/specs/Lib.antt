@@ -4,7 +4,6 @@ pub mod Allowed
 pub mod Seen
 pub mod Cases
 pub mod Listed
-pub mod FirstSeen
 pub mod Setting
 pub mod Plain
 pub mod Choices
