@@ -5,12 +5,13 @@ ghost use Rattle.cv_points.specs.Growing.{Flows, IsSaturated, IsTable};
 ghost use Rattle.cv_points.specs.Holders.{holders};
 ghost use Rattle.cv_points.specs.Least.{IsAscending, IsLeast};
 
+use crate::agenda::Agenda;
 use crate::collect::all_rules;
 use crate::distinct::distinct;
 use crate::growth::{apply, apply_all, empty_sets};
 use crate::holders::{first_holder, proc_count};
-use crate::marks::is_due;
 use crate::places::cell_places;
+use crate::readers::Readers;
 use crate::rules::Rule;
 use crate::walk::cell_total;
 use cv_core::{List, Program, PtsTable};
@@ -33,55 +34,32 @@ fn holder_total(p: &Program) -> Option<usize>
     }
 }
 
-/// Applies the rule of a number where the sets that it reads have grown, and says whether something was new.
-fn step(
+/// Applies the rule of a number, and makes the rules due that read a set that grew by it.
+fn visit(
     alloc: Global,
     cells: &[Option<usize>],
     rules: &[Rule],
-    sizes: &mut [usize],
     sets: &mut Vec<List<u32>>,
+    readers: &mut Readers,
+    agenda: &mut Agenda,
     number: usize,
-) -> Result<bool, AllocError>
+) -> Result<(), AllocError>
     ensures { OnOk result (Flows cells.now rules.now sets.old.items sets.new.items) }
 {
     match rules.get(number) {
-        None => Ok(false),
+        None => Ok(()),
         Some(rule) => {
-            if !is_due(cells, sets, sizes, *rule, number) {
-                return Ok(false);
+            readers.link(alloc, cells, sets, *rule, number)?;
+            if apply(alloc, cells, sets, *rule)? {
+                readers.tell(cells, sets, *rule, agenda)?;
             }
-            let grew = apply(alloc, cells, sets, *rule)?;
-            Ok(grew)
+            Ok(())
         }
     }
 }
 
-/// Goes once through the rules, from the last to the first where `back` is true, and says whether something was new.
-fn pass(
-    alloc: Global,
-    cells: &[Option<usize>],
-    rules: &[Rule],
-    sizes: &mut [usize],
-    sets: &mut Vec<List<u32>>,
-    back: bool,
-) -> Result<bool, AllocError>
-    ensures { OnOk result (Flows cells.now rules.now sets.old.items sets.new.items) }
-{
-    let mut more = false;
-    for step_number in 0..rules.len() {
-        let number = if back {
-            rules.len() - 1 - step_number
-        } else {
-            step_number
-        };
-        let grew = step(alloc, cells, rules, sizes, sets, number)?;
-        more = more || grew;
-    }
-    Ok(more)
-}
-
-/// Lets sets grow by the rules whose sets have grown, forward and backward by turns, so that a chain of inclusions
-/// takes few passes whatever its direction.
+/// Lets sets grow by rules: first by each of them, and then by those that read a set that has grown, until there are
+/// none.
 fn flow(
     alloc: Global,
     cells: &[Option<usize>],
@@ -90,23 +68,18 @@ fn flow(
 ) -> Result<(), AllocError>
     ensures { OnOk result (Flows cells.now rules.now sets.old.items sets.new.items) }
 {
-    let mut sizes = vec![in alloc; 0; rules.len()]?;
-    for round in 0..rules.len() {
-        if !pass(
-            alloc,
-            cells,
-            rules,
-            sizes.as_mut_slice(),
-            sets,
-            round % 2 == 1,
-        )? {
-            return Ok(());
+    let mut readers = Readers::of(alloc, rules, sets.len())?;
+    let mut agenda = Agenda::full(alloc, rules.len())?;
+    for _ in 0..usize::MAX {
+        match agenda.pop() {
+            None => return Ok(()),
+            Some(number) => visit(alloc, cells, rules, sets, &mut readers, &mut agenda, number)?,
         }
     }
     Ok(())
 }
 
-/// Lets sets grow by rules until they keep them all: first each rule where it has cause, then in passes over all.
+/// Lets sets grow by rules until they keep them all: first those that are due, and then in passes over all.
 fn saturated(
     alloc: Global,
     cells: &[Option<usize>],
@@ -151,8 +124,9 @@ fn least_family(alloc: Global, p: &Program) -> Result<PtsTable, AllocError>
 
 /// The least closed family of a program: one ascending set of sites for each holder, closed under the rules of
 /// inclusion after Andersen, and within every closed family that has as many sets. An error is want of memory.
-/// The rules of all statements are listed, each once; a rule is applied again only where a set that it reads has
-/// grown, and takes one walk over the ascending sets that it joins. At the end all rules are tried once more.
+/// The rules of all statements are listed, nearly all of them once. Each rule is due at first, and again where a set
+/// that it reads has grown; those that are due are visited in their order and back by turns. A visit takes one walk
+/// over the ascending sets that the rule joins. At the end all rules are tried once more.
 pub fn least(alloc: Global, p: &Program) -> Result<PtsTable, AllocError>
     ensures counted { IfOk result (λ table. length table ≡ holders p.now) }
     ensures ascending { IfOk result (λ table. (h : ℕ) → IsAscending (set_at table h)) }

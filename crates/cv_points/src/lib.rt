@@ -2,17 +2,18 @@
 //! statements, and the least family that is.
 #![tactic(auto)]
 
+mod agenda;
 mod check;
 mod collect;
 mod distinct;
 mod fixpoint;
 mod growth;
 mod holders;
-mod marks;
 mod merge;
 mod missing;
 mod place;
 mod places;
+mod readers;
 mod rules;
 mod statements;
 mod walk;
