@@ -1,4 +1,4 @@
--- Passes over rules until nothing is new.
+-- Some of the rules, and then passes over all until nothing is new.
 use Rattle.std.proofs.Common.{◌^◌, ℕ, ◌≡◌, ◌<◌, ◌≤◌, ◌-◌, ◌*◌, Bool, true, false, List, length, subst, sym, ◌∙◌, arith}
 use Rattle.std.specs.List.{Contains}
 use Rattle.std.specs.Bool.{MatchBool}
@@ -11,22 +11,39 @@ use Rattle.cv_points.specs.declared.rules.Rule.{Rule}
 use Rattle.cv_points.specs.declared.rules.Rule.TheVariants as rule
 use Rattle.cv_points.proofs.Grown.{total_limit}
 
+pub flows_not : (cells : Places) (rules : List Rule) (S : Family) → Flows cells rules S S
+flows_not cells rules S = record { table = λ count t. t; within = λ R w k. w }
+
+pub flows_then : (cells : Places) (rules : List Rule) (S T U : Family) → Flows cells rules S T → Flows cells rules T U → Flows cells rules S U
+flows_then cells rules S T U f g = record {
+  table = λ count t. g.table count (f.table count t);
+  within = λ R w k. g.within R (f.within R w k) k;
+}
+
+-- one rule of the list
+pub flows_once : (cells : Places) (rules : List Rule) (S T : Family) (more : Bool) (r : Rule) → Contains rules r → Grows S T more (λ R. Keeps cells R r) → Flows cells rules S T
+flows_once cells rules S T more r c g = record { table = g.table; within = λ R w k. g.within R w (k r c) }
+
+-- all of them
+flows_all : (cells : Places) (rules : List Rule) (S T : Family) (more : Bool) → Grows S T more (λ R. KeepsAll cells rules R) → Flows cells rules S T
+flows_all cells rules S T more g = record { table = g.table; within = g.within }
+
+-- ---- passes
+
 pub record IsOnTheWay (cells : Places) (rules : List Rule) (S T : Family) : Type 0 where
   pub here : IsTable (length T) T
-  pub table : (count : ℕ) → IsTable count S → IsTable count T
-  pub within : (R : Family) → IsWithin S R → KeepsAll cells rules R → IsWithin T R
-
-pub way_begins : (cells : Places) (rules : List Rule) (S : Family) → IsTable (length S) S → IsOnTheWay cells rules S S
-way_begins cells rules S t = record { here = t; table = λ count k. k; within = λ R w k. w }
+  pub flows : Flows cells rules S T
 
 grown_here : (T U : Family) (more : Bool) (Q : Family → Type 0) → Grows T U more Q → IsTable (length T) T → IsTable (length U) U
 grown_here T U more Q g t = let k = g.table (length T) t in subst (λ n. IsTable n U) (sym k.long) k
 
+pub way_from : (cells : Places) (rules : List Rule) (S T : Family) → IsTable (length S) S → Flows cells rules S T → IsOnTheWay cells rules S T
+way_from cells rules S T t f = record { here = (let k = f.table (length S) t in subst (λ n. IsTable n T) (sym k.long) k); flows = f }
+
 pub way_goes_on : (cells : Places) (rules : List Rule) (S T U : Family) (more : Bool) → IsOnTheWay cells rules S T → Grows T U more (λ R. KeepsAll cells rules R) → IsOnTheWay cells rules S U
 way_goes_on cells rules S T U more w g = record {
   here = grown_here T U more (λ R. KeepsAll cells rules R) g w.here;
-  table = λ count k. g.table count (w.table count k);
-  within = λ R i k. g.within R (w.within R i k) k;
+  flows = flows_then cells rules S T U w.flows (flows_all cells rules T U more g);
 }
 
 limit_of : (T : Family) → IsTable (length T) T → total T ≤ length T * 2 ^ 32
@@ -51,26 +68,8 @@ still T U false Q e h = h.1
 
 pub way_is_over : (cells : Places) (rules : List Rule) (S T U : Family) (more : Bool) → more ≡ false → IsOnTheWay cells rules S T → Grows T U more (λ R. KeepsAll cells rules R) → IsSaturated cells rules S U
 way_is_over cells rules S T U more e w g =
-    let over = way_goes_on cells rules S T U more w g in
+    let over = flows_then cells rules S T U w.flows (flows_all cells rules T U more g) in
     record { table = over.table; keeps = still T U more (λ R. KeepsAll cells rules R) e g.change; within = over.within }
-
--- ---- some of the rules before
-
-pub flows_not : (cells : Places) (rules : List Rule) (S : Family) → Flows cells rules S S
-flows_not cells rules S = record { table = λ count t. t; within = λ R w k. w }
-
-pub flows_then : (cells : Places) (rules : List Rule) (S T U : Family) → Flows cells rules S T → Flows cells rules T U → Flows cells rules S U
-flows_then cells rules S T U f g = record {
-  table = λ count t. g.table count (f.table count t);
-  within = λ R w k. g.within R (f.within R w k) k;
-}
-
--- one rule of the list
-pub flows_once : (cells : Places) (rules : List Rule) (S T : Family) (more : Bool) (r : Rule) → Contains rules r → Grows S T more (λ R. Keeps cells R r) → Flows cells rules S T
-flows_once cells rules S T more r c g = record { table = g.table; within = λ R w k. g.within R w (k r c) }
-
-pub way_from : (cells : Places) (rules : List Rule) (S T : Family) → IsTable (length S) S → Flows cells rules S T → IsOnTheWay cells rules S T
-way_from cells rules S T t f = record { here = (let k = f.table (length S) t in subst (λ n. IsTable n T) (sym k.long) k); table = f.table; within = f.within }
 
 -- ---- the least family
 
