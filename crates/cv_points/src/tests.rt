@@ -535,3 +535,43 @@ fn buffer_and_literal(rt: HostRuntime) -> Result<(), Fail> {
     assert!(rt; is_set(&family, 3, &[1]));
     Ok(())
 }
+
+/// `return 0;`
+fn returns_zero() -> Form
+    ensures { IsForm result }
+{
+    Form::Return(Some(AnyOperand::Operand(Operand::Number(0))))
+}
+
+/// main with the `ptr` formals d and s, which returns 0.
+fn two_formals(alloc: Global) -> Result<Program, AllocError> {
+    let mut formals = none(alloc);
+    put_formal(alloc, &mut formals, b"d".as_slice())?;
+    put_formal(alloc, &mut formals, b"s".as_slice())?;
+    let mut stmts = none(alloc);
+    then(&mut stmts, returns_zero())?;
+    let mut procs = none(alloc);
+    define(
+        alloc,
+        &mut procs,
+        ResultKind::Int,
+        b"main".as_slice(),
+        formals,
+        none(alloc),
+        stmts,
+    )?;
+    Ok(program(alloc, procs))
+}
+
+#[test]
+fn formals_of_main(rt: HostRuntime) -> Result<(), Fail> {
+    let alloc = rt.alloc();
+    let program = two_formals(alloc)?;
+    let family = least(alloc, &program)?;
+    assert_eq!(rt; closed(&program, &family), Ok(()));
+    // the site 0 is what lies outside; main's d and s
+    assert_eq!(rt; family.sets.len(), 2);
+    assert!(rt; is_set(&family, 0, &[0]));
+    assert!(rt; is_set(&family, 1, &[0]));
+    Ok(())
+}
