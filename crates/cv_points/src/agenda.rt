@@ -1,6 +1,6 @@
-//! The order in which rules are visited: a worklist in two parts, the rules at hand and those for the next turn, after
-//! Nielson, Nielson and Hankin. Inclusions are solved with such worklists by Pearce, Kelly and Hankin among others.
-//! Nothing but speed rests on it: a rule that is left out is found by the passes over all rules.
+//! The order in which rules are visited: a worklist, as Pearce, Kelly and Hankin solve inclusion constraints, in two
+//! parts after Nielson, Nielson and Hankin: the rules that are at hand, and those for the next turn. Nothing but speed
+//! rests on it: a rule that is left out is found by the passes over all rules.
 use std::alloc::{AllocError, Global};
 use std::collections::BinaryHeap;
 use std::mem;
