@@ -9,6 +9,7 @@ pub mod Respelled
 pub mod RespelledForms
 pub mod RespelledContract
 pub mod RespelledProgram
+pub mod Shaped
 pub mod Singles
 pub mod OperandLaws
 pub mod Phrases
@@ -22,6 +23,7 @@ pub mod Straight
 pub mod Written
 pub mod NarrowWhole
 pub mod Calls
+pub mod Declared
 pub mod Depth
 pub mod ContractTerms
 pub mod Nexts

@@ -1,6 +1,6 @@
 -- Which texts spell a straight-line program, and what they are read as.
 use Rattle.std.proofs.Common.{◌≡◌, ℕ, ◌≤◌, Bool, true, false, List, [], ◌∷◌, ◌++◌, length, Some, Ok, Err, pos, refl, sym, ap, subst, ◌∙◌, arith, ◌⊎◌, inl, inr, codes}
-use Rattle.cv_core.specs.Grammar.{IsName, IsLocal, IsStmt, IsAtom, IsItem, IsAlternative, IsGlobalBody, IsProc, IsWritten}
+use Rattle.cv_core.specs.Grammar.{IsName, AreBytes, IsLocal, IsStmt, IsAtom, IsItem, IsAlternative, IsGlobalBody, IsProc, IsWritten}
 use Rattle.cv_core.specs.declared.program.Program.{Program}
 use Rattle.cv_core.specs.declared.program.Formal.{Formal}
 use Rattle.cv_core.specs.declared.program.Stmt.{Stmt}
@@ -290,7 +290,7 @@ written_by v text h fine =
       contract = record { listed = none_of IsName; needs = none_of IsAtom; changes = none_of IsItem; gives = none_of IsAlternative };
       body = (each_fine IsLocal LocalText local_fine (locals_of v.1.0) a9.0 a9.2 a9.4, each_fine IsStmt Written written_fine v.1.1 a10.0 a10.2.1 a10.4);
     } in
-    record { globals = none_of (λ g. IsName g.name × IsGlobalBody g.body); literals = none_of (λ l. IsName l.name); procs = each_by IsProc (main_of v) [] proc (none_of IsProc) }
+    record { globals = none_of (λ g. IsName g.name × IsGlobalBody g.body); literals = none_of (λ l. IsName l.name × AreBytes l.bytes); procs = each_by IsProc (main_of v) [] proc (none_of IsProc) }
 
 pub is_written : (text : List ℕ) (v : Parts) → narrow (lexemes text) ≡ Ok (v, []) → IsWritten (program_of v)
 is_written text v e = written_by v (lexemes text) (all_taken reads_narrow (lexemes text) v e) (lexemes_fine text)

@@ -1,22 +1,18 @@
 -- The printed text of statements and declarations is of the grammar, for what was printed.
-use Rattle.std.proofs.Common.{◌≡◌, ℕ, zero, suc, ◌+◌, ◌<◌, ◌≤◌, ◌^◌, Bool, true, false, List, [], ◌∷◌, ◌++◌, length, Option, Some, None, ℤ, pos, negsuc, ◌≤ℤ◌, codes, refl, sym, ap, subst, ◌∙◌, arith, append_assoc, append-nil, inl, inr}
+use Rattle.std.proofs.Common.{◌≡◌, ℕ, suc, ◌+◌, ◌<◌, ◌≤◌, ◌^◌, List, [], ◌∷◌, ◌++◌, ℤ, pos, negsuc, ◌≤ℤ◌, codes, refl, sym, ap, subst, ◌∙◌, arith, append_assoc, append-nil, inl, inr}
 use Rattle.std.proofs.lemmas.Int.{ints}
 use Rattle.std.specs.List.{All, flat_map}
 use Rattle.std.specs.Fmt.{decimal, signed_decimal}
-use Rattle.cv_core.specs.Grammar.{IsName, IsDigits, IsSize, IsOperand, IsAnyOperand}
+use Rattle.cv_core.specs.Grammar.{IsInt, IsName, IsDigits, IsSize, IsOperand, IsAnyOperand}
 use Rattle.cv_core.specs.declared.program.Operand.{Operand}
 use Rattle.cv_core.specs.declared.program.Operand.TheVariants as operand
 use Rattle.cv_core.specs.declared.program.AnyOperand.{AnyOperand}
 use Rattle.cv_core.specs.declared.program.AnyOperand.TheVariants as any
-use Rattle.cv_reading.specs.Phrase.{one, nothing, ◌⋅◌, Each, Following, Separated}
+use Rattle.cv_reading.specs.Phrase.{one, ◌⋅◌, Each, Following, Separated}
 use Rattle.cv_reading.proofs.Laws.{to_left, second_as, with_nothing}
-use Rattle.cv_text.specs.declared.token.Key.{Key}
 use Rattle.cv_text.specs.declared.token.Key.TheVariants as key
-use Rattle.cv_text.specs.declared.token.Sign.{Sign}
-use Rattle.cv_text.specs.declared.token.Sign.TheVariants as sign
-use Rattle.cv_text.specs.Tokens.{Lexeme, Line, name, word, digits, mark, value_of}
-use Rattle.cv_text.specs.Grammar.{Name, Word, Mark, Digits, DigitsWithin, Count, Size, Byte, end, Plain, Signed, Number, Divisor, Value, Any}
-use Rattle.cv_text.specs.Printable.{IsInt, OperandFits, AnyFits}
+use Rattle.cv_text.specs.Tokens.{Lexeme, Line, digits}
+use Rattle.cv_text.specs.Grammar.{Name, DigitsWithin, Count, Size, Byte, end, Number, Divisor, Value, Any}
 use Rattle.cv_text.specs.PrintedContract.{joined}
 use Rattle.cv_text.specs.Printed.{operand_text, any_text}
 use Rattle.cv_text.proofs.Pieces.{Closed, Open, Apart, Keeps, is_apart, open_keeps, closed_closed, open_closed, closed_open, open_open, closed_as_open, closed_none, closed_newline, closed_semicolon, closed_dash, decimal_is, open_decimal, open_name, word_open}
@@ -104,13 +100,13 @@ pub divisor_prints : (z : ℤ) → IsInt z → pos 1 ≤ℤ z → PrintsOpen (si
 divisor_prints (pos n) h k = opens_as (λ l d. (n, refl, d)) (within_prints 1 (2 ^ 31) n (omega (arith, ints)) (omega (arith, ints)) (omega (arith, ints)))
 divisor_prints (negsuc n) h k = absurd (omega (arith, ints))
 
-pub value_prints : (e : Operand) → IsOperand e → OperandFits e → PrintsOpen (operand_text e) (Value e)
-value_prints (operand.Var x) h k = name_prints x h
-value_prints (operand.Number z) h k = number_prints z k
+pub value_prints : (e : Operand) → IsOperand e → PrintsOpen (operand_text e) (Value e)
+value_prints (operand.Var x) h = name_prints x h
+value_prints (operand.Number z) h = number_prints z h
 
-pub any_prints : (e : AnyOperand) → IsAnyOperand e → AnyFits e → PrintsOpen (any_text e) (Any e)
-any_prints (any.Operand e) h k = value_prints e h k
-any_prints any.Null h k = open_token (word_open (codes "null") key.Null refl refl)
+pub any_prints : (e : AnyOperand) → IsAnyOperand e → PrintsOpen (any_text e) (Any e)
+any_prints (any.Operand e) h = value_prints e h
+any_prints any.Null h = open_token (word_open (codes "null") key.Null refl refl)
 
 -- ---- lists
 

@@ -1,12 +1,12 @@
 -- The printed text of a contract is of the grammar, for that contract.
-use Rattle.std.proofs.Common.{◌≡◌, ℕ, ◌≤◌, Bool, true, false, List, [], ◌∷◌, ◌++◌, length, Option, Some, None, codes, refl, sym, ap, ◌∙◌, append_assoc, arith}
+use Rattle.std.proofs.Common.{◌≡◌, ℕ, Bool, true, false, List, [], ◌∷◌, ◌++◌, Option, Some, None, codes, refl, sym, ap, ◌∙◌, append_assoc, arith}
 use Rattle.std.specs.List.{All, flat_map}
 use Rattle.std.specs.Fmt.{decimal}
-use Rattle.cv_core.specs.Grammar.{IsName, IsDigits, IsPointer, IsPointerHeld, IsTerm, IsTermHeld, IsFactor, IsLin, IsAtom, IsItem, IsAlternative, IsContract}
+use Rattle.cv_core.specs.Grammar.{IsName, IsPointer, IsTerm, IsFactor, IsLin, IsAtom, IsItem, IsAlternative, IsContract}
 use Rattle.cv_core.specs.declared.program.Contract.{Contract}
-use Rattle.cv_core.specs.declared.program.PtrTerm.{PtrTerm, Row_of-PtrTerm, end_of-PtrTerm, more_of-PtrTerm}
+use Rattle.cv_core.specs.declared.program.PtrTerm.{PtrTerm, more_of-PtrTerm}
 use Rattle.cv_core.specs.declared.program.PtrTerm.TheVariants as pointer
-use Rattle.cv_core.specs.declared.program.Term.{Term, Row_of-Term, end_of-Term, more_of-Term}
+use Rattle.cv_core.specs.declared.program.Term.{Term, more_of-Term}
 use Rattle.cv_core.specs.declared.program.Term.TheVariants as term
 use Rattle.cv_core.specs.declared.program.LinPart.{LinPart}
 use Rattle.cv_core.specs.declared.program.Atom.{Atom}
@@ -15,17 +15,16 @@ use Rattle.cv_core.specs.declared.program.Item.{Item}
 use Rattle.cv_core.specs.declared.program.Item.TheVariants as item
 use Rattle.cv_core.specs.declared.program.Rel.{Rel}
 use Rattle.cv_core.specs.declared.program.Rel.TheVariants as rel
-use Rattle.cv_reading.specs.Phrase.{nothing, ◌⋅◌, Following}
-use Rattle.cv_reading.proofs.Laws.{behind_nothing, with_nothing, before_nothing, to_left}
+use Rattle.cv_reading.specs.Phrase.{◌⋅◌}
 use Rattle.cv_text.specs.declared.token.Key.TheVariants as key
 use Rattle.cv_text.specs.declared.token.Sign.TheVariants as sign
 use Rattle.cv_text.specs.Tokens.{Line, key_of}
 use Rattle.cv_core.specs.Grammar.{begins_name}
-use Rattle.cv_text.specs.Grammar.{Name, Word, Mark, Count, Equality, Relation, end}
-use Rattle.cv_text.specs.Clauses.{Applied, Pointer, PointerHeld, TermText, TermHeld, Factor, FirstSign, LaterSign, LaterParts, Linear, SumRelation, AtomText, ItemText, Some_of, Clause, Atoms, ContractText}
-use Rattle.cv_text.specs.PrintedContract.{joined, rel_text, pointer_text, pointer_held_text, term_text, term_held_text, factor_text, first_sign_text, later_sign_text, later_part_text, sum_text, null_text, atom_text, item_text, clause_text, atoms_text, contract_text}
-use Rattle.cv_text.proofs.Pieces.{Apart, Keeps, is_apart, closed_as_open, closed_none, closed_blank, closed_comma, closed_plus, closed_minus, closed_times, closed_dash, closed_star, closed_bar, closed_bracket, closed_end_bracket, closed_rel, name_open, word_open, open_closed}
-use Rattle.cv_text.proofs.Respelled.{Prints, PrintsOpen, ◌▸◌, ◌▹◌, open_then, open_then_open, open_then_keeps, as_open, regroup, regroup_open, prints_as, opens_as, token, open_token, then_newline, name_prints, semicolon, count_prints, separated_then, separated_open, tail_good}
+use Rattle.cv_text.specs.Grammar.{Name, Word, Mark, Equality, Relation, end}
+use Rattle.cv_text.specs.Clauses.{Applied, Pointer, TermText, Factor, FirstSign, LaterSign, LaterParts, Linear, AtomText, ItemText, Clause, Atoms, ContractText}
+use Rattle.cv_text.specs.PrintedContract.{joined, rel_text, pointer_text, term_text, factor_text, first_sign_text, later_sign_text, later_part_text, sum_text, null_text, atom_text, item_text, clause_text, atoms_text, contract_text}
+use Rattle.cv_text.proofs.Pieces.{Apart, Keeps, is_apart, closed_as_open, closed_none, closed_blank, closed_plus, closed_minus, closed_times, closed_dash, closed_star, closed_bar, closed_bracket, closed_end_bracket, name_open, word_open, open_closed}
+use Rattle.cv_text.proofs.Respelled.{Prints, PrintsOpen, ◌▸◌, ◌▹◌, open_then, open_then_open, open_then_keeps, as_open, regroup, regroup_open, token, open_token, then_newline, name_prints, semicolon, count_prints, separated_then, separated_open, tail_good}
 use Rattle.cv_text.proofs.RespelledForms.{null_word, relation, relation_apart, comma}
 
 close : Prints (codes ")") (Mark sign.Close)

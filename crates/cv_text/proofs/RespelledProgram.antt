@@ -1,8 +1,8 @@
 -- The printed text of a program spells that program.
-use Rattle.std.proofs.Common.{◌≡◌, ℕ, ◌<◌, Bool, true, false, List, [], ◌∷◌, ◌++◌, Option, Some, None, codes, refl, sym, ap, subst, ◌∙◌, append_assoc, append-nil}
+use Rattle.std.proofs.Common.{◌≡◌, ℕ, ◌<◌, List, [], ◌∷◌, ◌++◌, Option, Some, None, codes, refl, sym, ap, subst, ◌∙◌, append_assoc, append-nil}
 use Rattle.std.specs.List.{All, flat_map}
 use Rattle.std.specs.Fmt.{decimal}
-use Rattle.cv_core.specs.Grammar.{Tree, IsName, IsDigits, IsSize, IsLocal, IsLocalBody, IsGlobalBody, IsBody, IsProc, IsStmt, IsWritten}
+use Rattle.cv_core.specs.Grammar.{Tree, AreBytes, IsName, IsSize, IsLocal, IsLocalBody, IsGlobalBody, IsBody, IsProc, IsStmt, IsWritten}
 use Rattle.cv_core.specs.declared.program.GlobalDecl.{GlobalDecl}
 use Rattle.cv_core.specs.declared.program.GlobalBody.{GlobalBody}
 use Rattle.cv_core.specs.declared.program.GlobalBody.TheVariants as global
@@ -17,20 +17,18 @@ use Rattle.cv_core.specs.declared.program.Formal.{Formal}
 use Rattle.cv_core.specs.declared.program.Local.{Local}
 use Rattle.cv_core.specs.declared.program.LocalBody.{LocalBody}
 use Rattle.cv_core.specs.declared.program.LocalBody.TheVariants as local
-use Rattle.cv_core.specs.declared.program.Stmt.{Stmt}
-use Rattle.cv_reading.specs.Phrase.{nothing, ◌⋅◌, Each, Separated}
+use Rattle.cv_reading.specs.Phrase.{◌⋅◌, Separated}
 use Rattle.cv_reading.proofs.Laws.{behind_nothing, with_nothing}
-use Rattle.cv_text.specs.declared.token.Key.{Key}
 use Rattle.cv_text.specs.declared.token.Key.TheVariants as key
 use Rattle.cv_text.specs.declared.token.Sign.TheVariants as sign
-use Rattle.cv_text.specs.Tokens.{Line, lexemes}
-use Rattle.cv_text.specs.Grammar.{Name, Word, Mark, Count, Size, Byte, Kind, LocalPhrase, LocalText, GlobalPhrase, GlobalText, LiteralText, Answer, FormalText, Statement, variables_of, end}
+use Rattle.cv_text.specs.Tokens.{lexemes}
+use Rattle.cv_text.specs.Grammar.{Name, Word, Mark, Size, Byte, Kind, LocalPhrase, LocalText, GlobalPhrase, GlobalText, LiteralText, Answer, FormalText, Statement, AsDeclared, variables_of, end}
 use Rattle.cv_text.specs.Clauses.{ContractText}
 use Rattle.cv_text.specs.Whole.{BodyText, ProcText, ProgramText, Spells}
 use Rattle.cv_text.specs.PrintedContract.{joined, contract_text}
-use Rattle.cv_text.specs.Printed.{kind_text, local_phrase, local_text, global_phrase, global_text, bytes_text, literal_text, answer_text, formal_text, heading_text, braced_text, body_text, statement_text, proc_text, program_text}
-use Rattle.cv_text.specs.Printable.{StatementPrints, BodyPrints, ProcPrints, LiteralPrints, IsPrintable}
-use Rattle.cv_text.proofs.Pieces.{closed_none, closed_blank, closed_newline, closed_word, closed_colon, closed_bracket, closed_end_bracket, closed_brace, closed_end_brace, closed_brace_between, open_closed, closed_closed, open_name, word_open}
+use Rattle.cv_text.specs.Printed.{kind_text, local_phrase, local_text, global_phrase, global_text, bytes_text, literal_text, answer_text, formal_text, braced_text, body_text, statement_text, proc_text, program_text}
+use Rattle.cv_text.proofs.Declared.{AreDeclared, BodyDeclared}
+use Rattle.cv_text.proofs.Pieces.{closed_blank, closed_word, closed_colon, closed_bracket, closed_end_bracket, closed_brace, closed_end_brace, closed_brace_between, open_closed, open_name, word_open}
 use Rattle.cv_text.proofs.Respelled.{Prints, PrintsOpen, ◌▸◌, ◌▹◌, open_then, regroup, prints_as, token, open_token, then_newline, name_prints, semicolon, count_prints, size_prints, byte_prints, separated_then, each_prints}
 use Rattle.cv_text.proofs.RespelledForms.{comma, blank_piece, statement_prints}
 use Rattle.cv_text.proofs.RespelledContract.{contract_prints}
@@ -96,7 +94,7 @@ global_prints g h = then_newline (global_phrase_prints g.name g.body h.0 h.1)
 closes : Prints (codes "};") (Mark sign.CloseBrace ⋅ end)
 closes = token closed_end_brace ▸ semicolon
 
-bytes_print : (bytes : List ℕ) → All (λ b. b < 256) bytes → Prints (bytes_text bytes ++ codes "};") (Separated (Mark sign.Comma) Byte bytes ⋅ Mark sign.CloseBrace ⋅ end)
+bytes_print : (bytes : List ℕ) → AreBytes bytes → Prints (bytes_text bytes ++ codes "};") (Separated (Mark sign.Comma) Byte bytes ⋅ Mark sign.CloseBrace ⋅ end)
 bytes_print [] h = prints_as (with_nothing (Mark sign.CloseBrace ⋅ end)) closes
 bytes_print (b ∷ bs) h =
     let last : Prints (codes " };") (Mark sign.CloseBrace ⋅ end) = prints_as (behind_nothing (Mark sign.CloseBrace ⋅ end)) (blank_piece ▸ closes) in
@@ -104,7 +102,7 @@ bytes_print (b ∷ bs) h =
     regroup (sym (append_assoc (joined (codes ", ") decimal (b ∷ bs)) (codes " ") (codes "};"))) all
 
 abbrev LiteralGood : Literal → Type 0
-LiteralGood l = IsName l.name × LiteralPrints l
+LiteralGood l = IsName l.name × AreBytes l.bytes
 
 literal_prints : (l : Literal) → LiteralGood l → Prints (literal_text l) (LiteralText l)
 literal_prints l h =
@@ -128,21 +126,21 @@ formal_prints f h = kind_prints f.kind ▹ name_prints f.name h
 brace_line : Prints (codes "{" ++ 10 ∷ []) (Mark sign.OpenBrace)
 brace_line = then_newline (token closed_brace)
 
-braced_prints : (formals : List Formal) (b : ProcBody) → All IsLocal b.locals → All IsStmt b.stmts → All (StatementPrints (formals ++ variables_of b.locals)) b.stmts → Prints (braced_text b) (BodyText formals (Some b))
+braced_prints : (formals : List Formal) (b : ProcBody) → All IsLocal b.locals → All IsStmt b.stmts → All (λ s. AsDeclared (formals ++ variables_of b.locals) s.form) b.stmts → Prints (braced_text b) (BodyText formals (Some b))
 braced_prints formals b h k g =
     let vs : List Formal = formals ++ variables_of b.locals in
     let locals = each_prints local_text LocalText IsLocal local_prints b.locals h in
-    let stmts = each_prints statement_text (Statement vs) (λ s. IsStmt s × StatementPrints vs s) (statement_prints vs) b.stmts (λ i d lt. (k i d lt, g i d lt)) in
+    let stmts = each_prints statement_text (Statement vs) (λ s. IsStmt s × AsDeclared vs s.form) (statement_prints vs) b.stmts (λ i d lt. (k i d lt, g i d lt)) in
     let begin : List ℕ = codes "{" ++ 10 ∷ [] in
     let whole : begin ++ (flat_map local_text b.locals ++ (flat_map statement_text b.stmts ++ (codes "}" ++ 10 ∷ []))) ≡ braced_text b = simp append_assoc in
     regroup whole (brace_line ▸ (locals ▸ (stmts ▸ then_newline (token closed_end_brace))))
 
-body_prints : (formals : List Formal) (body : Option ProcBody) → IsBody body → BodyPrints formals body → Prints (body_text body) (BodyText formals body)
+body_prints : (formals : List Formal) (body : Option ProcBody) → IsBody body → BodyDeclared formals body → Prints (body_text body) (BodyText formals body)
 body_prints formals None h k = then_newline (open_then (open_token (word_open (codes "extern") key.Extern refl refl)) (λ rest. refl) semicolon)
 body_prints formals (Some b) h k = braced_prints formals b h.0 h.1 k
 
 abbrev ProcGood : Proc → Type 0
-ProcGood f = IsProc f × ProcPrints f
+ProcGood f = IsProc f × BodyDeclared f.formals f.body
 
 proc_prints : (f : Proc) → ProcGood f → Prints (proc_text f) (ProcText f)
 unfolding proc_text
@@ -157,18 +155,18 @@ proc_prints f h =
 
 -- ---- the program
 
-pub program_prints : (p : Tree) → IsPrintable p → Prints (program_text p) (ProgramText p)
+pub program_prints : (p : Tree) → IsWritten p → AreDeclared p → Prints (program_text p) (ProgramText p)
 unfolding program_text
-program_prints p h =
-    let globals = each_prints global_text GlobalText GlobalGood global_prints p.globals h.written.globals in
-    let literals = each_prints literal_text LiteralText LiteralGood literal_prints p.literals (λ i d lt. (h.written.literals i d lt, h.literals i d lt)) in
-    let procs = each_prints proc_text ProcText ProcGood proc_prints p.procs (λ i d lt. (h.written.procs i d lt, h.procs i d lt)) in
+program_prints p h k =
+    let globals = each_prints global_text GlobalText GlobalGood global_prints p.globals h.globals in
+    let literals = each_prints literal_text LiteralText LiteralGood literal_prints p.literals h.literals in
+    let procs = each_prints proc_text ProcText ProcGood proc_prints p.procs (λ i d lt. (h.procs i d lt, k i d lt)) in
     let whole : flat_map global_text p.globals ++ (flat_map literal_text p.literals ++ flat_map proc_text p.procs) ≡ program_text p = sym (append_assoc (flat_map global_text p.globals) (flat_map literal_text p.literals) (flat_map proc_text p.procs)) in
     regroup whole (globals ▸ (literals ▸ procs))
 
-pub printed_spells : (p : Tree) → IsPrintable p → Spells (program_text p) p
+pub printed_spells : (p : Tree) → IsWritten p → AreDeclared p → Spells (program_text p) p
 unfolding lexemes
-printed_spells p h =
-    let x = program_prints p h in
+printed_spells p h k =
+    let x = program_prints p h k in
     let e : lexemes (program_text p) ≡ x.line = ap lexemes (sym (append-nil (program_text p))) ∙ x.closed.read [] ∙ append-nil x.line in
     record { tokens = subst (ProgramText p) (sym e) x.is }

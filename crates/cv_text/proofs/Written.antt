@@ -1,9 +1,9 @@
 -- A program that a text spells has the form that the grammar alone asks.
-use Rattle.std.proofs.Common.{◌≡◌, ℕ, zero, suc, Bool, true, false, cond, not, ◌&&◌, ◌||◌, IsTrue, if◌then◌else◌, List, [], ◌∷◌, ◌++◌, length, Option, Some, None, ℤ, pos, ◌≤ℤ◌, refl, ap, subst, ◌∙◌, arith}
+use Rattle.std.proofs.Common.{◌≡◌, ℕ, zero, suc, Bool, true, false, cond, not, ◌&&◌, ◌||◌, IsTrue, if◌then◌else◌, List, [], ◌∷◌, ◌++◌, length, Option, Some, None, ℤ, pos, negsuc, neg_ℤ, ◌≤ℤ◌, ◌<◌, ◌^◌, ◌+◌, inl, inr, refl, ap, subst, ◌∙◌, arith}
 use Rattle.std.proofs.lemmas.Int.{ints}
 use Rattle.std.specs.List.{list_any, list_all, find, take_while, All}
 use Rattle.std.proofs.lemmas.List.Sums.{take_while-cons}
-use Rattle.cv_core.specs.Grammar.{is_letter, is_digit, begins_name, IsName, IsDigits, IsOperand, IsAnyOperand, IsForm, IsStmt, IsLocal, IsLocalBody}
+use Rattle.cv_core.specs.Grammar.{is_letter, is_digit, begins_name, IsName, IsDigits, IsInt, IsOperand, IsAnyOperand, IsForm, IsStmt, IsLocal, IsLocalBody}
 use Rattle.cv_core.specs.declared.program.Local.{Local}
 use Rattle.cv_core.specs.declared.program.LocalBody.{LocalBody}
 use Rattle.cv_core.specs.declared.program.LocalBody.TheVariants as local
@@ -21,7 +21,7 @@ use Rattle.cv_text.specs.declared.token.Sign.TheVariants as sign
 use Rattle.std.specs.Str.{bytes_eq}
 use Rattle.cv_text.specs.Spelling.{key_text, keys, foreign}
 use Rattle.cv_text.specs.Tokens.{Lexeme, name, digits, other, Line, begins, is_name_byte, run, key_of, name_or, sign_or, sign_at, token_at, front_token, past_blanks, first_tokens, lexemes}
-use Rattle.cv_text.specs.Grammar.{Name, Mark, Count, Divisor, Value, Any, Phrase, CallPhrase, Jump, LocalPhrase, LocalText}
+use Rattle.cv_text.specs.Grammar.{Name, Mark, Count, DigitsWithin, Number, Divisor, Value, Any, Phrase, CallPhrase, Jump, LocalPhrase, LocalText}
 
 -- ---- the names among the tokens of a text are names
 
@@ -109,9 +109,21 @@ split text (front, rest, h, k, parts) fine = (front, rest, h, k, fine_front fron
 pub name_fine : (x : List ℕ) (text : Line) → Name x text → AllFine text → IsName x
 name_fine x text e h = (subst AllFine e h).0
 
+-- a number within the range of an int is one
+plain_int : (z : ℤ) (n : ℕ) → z ≡ pos n → n < 2 ^ 31 → IsInt z
+plain_int z n e h = (rw e (omega (arith, ints, h)), rw e (omega (arith, ints, h)))
+
+signed_int : (z : ℤ) (n : ℕ) → z ≡ neg_ℤ (pos n) → n < 2 ^ 31 + 1 → IsInt z
+signed_int z zero e h = plain_int z 0 e (omega arith)
+signed_int z (suc n) e h = (rw e (omega (arith, ints, h)), rw e (omega (arith, ints, h)))
+
+pub number_int : (z : ℤ) (text : Line) → Number z text → IsInt z
+number_int z text (inl (n, e, (low, high, d))) = plain_int z n e high
+number_int z text (inr (n, e, (front, rest, m, (low, high, d), parts))) = signed_int z n e high
+
 pub value_fine : (e : Operand) (text : Line) → Value e text → AllFine text → IsOperand e
 value_fine (operand.Var x) text h fine = name_fine x text h fine
-value_fine (operand.Number z) text h fine = tt
+value_fine (operand.Number z) text h fine = number_int z text h
 
 pub any_fine : (e : AnyOperand) (text : Line) → Any e text → AllFine text → IsAnyOperand e
 any_fine (any.Operand e) text h fine = value_fine e text h fine
@@ -143,6 +155,9 @@ separated_fine P p separator f (a ∷ xs) text h fine = let s = split text h fin
 divisor_is : (k : ℤ) (text : Line) → Divisor k text → pos 1 ≤ℤ k
 divisor_is k text (n, e, (low, high, d)) = rw e (omega (arith, ints))
 
+divisor_int : (k : ℤ) (text : Line) → Divisor k text → IsInt k
+divisor_int k text (n, e, (low, high, d)) = plain_int k n e high
+
 jump_is : (to : ℕ) (text : Line) → Jump to text → IsDigits to
 jump_is to text (a, r1, a_is, (b, r2, (low, high, d), e, p2), p1) = high
 
@@ -155,9 +170,9 @@ pub form_fine : (f : Form) (text : Line) → Phrase f text → AllFine text → 
 form_fine (form.Assign x e) text h fine = let a1 = split text h fine in let a2 = split a1.1 a1.3 a1.5 in let a3 = split a2.1 a2.3 a2.5 in (name_fine x a1.0 a1.2 a1.4, value_fine e a3.0 a3.2 a3.4)
 form_fine (form.Sum x e f) text h fine = let a1 = split text h fine in let a2 = split a1.1 a1.3 a1.5 in let a3 = split a2.1 a2.3 a2.5 in let a4 = split a3.1 a3.3 a3.5 in let a5 = split a4.1 a4.3 a4.5 in (name_fine x a1.0 a1.2 a1.4, value_fine e a3.0 a3.2 a3.4, value_fine f a5.0 a5.2 a5.4)
 form_fine (form.Minus x e f) text h fine = let a1 = split text h fine in let a2 = split a1.1 a1.3 a1.5 in let a3 = split a2.1 a2.3 a2.5 in let a4 = split a3.1 a3.3 a3.5 in let a5 = split a4.1 a4.3 a4.5 in (name_fine x a1.0 a1.2 a1.4, value_fine e a3.0 a3.2 a3.4, value_fine f a5.0 a5.2 a5.4)
-form_fine (form.Product x k e) text h fine = let a1 = split text h fine in let a2 = split a1.1 a1.3 a1.5 in let a3 = split a2.1 a2.3 a2.5 in let a4 = split a3.1 a3.3 a3.5 in let a5 = split a4.1 a4.3 a4.5 in (name_fine x a1.0 a1.2 a1.4, value_fine e a5.0 a5.2 a5.4)
-form_fine (form.Quotient x e k) text h fine = let a1 = split text h fine in let a2 = split a1.1 a1.3 a1.5 in let a3 = split a2.1 a2.3 a2.5 in let a4 = split a3.1 a3.3 a3.5 in let a5 = split a4.1 a4.3 a4.5 in (name_fine x a1.0 a1.2 a1.4, value_fine e a3.0 a3.2 a3.4, divisor_is k a5.0 a5.2)
-form_fine (form.Remainder x e k) text h fine = let a1 = split text h fine in let a2 = split a1.1 a1.3 a1.5 in let a3 = split a2.1 a2.3 a2.5 in let a4 = split a3.1 a3.3 a3.5 in let a5 = split a4.1 a4.3 a4.5 in (name_fine x a1.0 a1.2 a1.4, value_fine e a3.0 a3.2 a3.4, divisor_is k a5.0 a5.2)
+form_fine (form.Product x k e) text h fine = let a1 = split text h fine in let a2 = split a1.1 a1.3 a1.5 in let a3 = split a2.1 a2.3 a2.5 in let a4 = split a3.1 a3.3 a3.5 in let a5 = split a4.1 a4.3 a4.5 in (name_fine x a1.0 a1.2 a1.4, value_fine e a5.0 a5.2 a5.4, number_int k a3.0 a3.2)
+form_fine (form.Quotient x e k) text h fine = let a1 = split text h fine in let a2 = split a1.1 a1.3 a1.5 in let a3 = split a2.1 a2.3 a2.5 in let a4 = split a3.1 a3.3 a3.5 in let a5 = split a4.1 a4.3 a4.5 in (name_fine x a1.0 a1.2 a1.4, value_fine e a3.0 a3.2 a3.4, divisor_is k a5.0 a5.2, divisor_int k a5.0 a5.2)
+form_fine (form.Remainder x e k) text h fine = let a1 = split text h fine in let a2 = split a1.1 a1.3 a1.5 in let a3 = split a2.1 a2.3 a2.5 in let a4 = split a3.1 a3.3 a3.5 in let a5 = split a4.1 a4.3 a4.5 in (name_fine x a1.0 a1.2 a1.4, value_fine e a3.0 a3.2 a3.4, divisor_is k a5.0 a5.2, divisor_int k a5.0 a5.2)
 form_fine (form.CopyPtr p (Some q)) text h fine = let a1 = split text h fine in let a2 = split a1.1 a1.3 a1.5 in let a3 = split a2.1 a2.3 a2.5 in (name_fine p a1.0 a1.2 a1.4, name_fine q a3.0 a3.2 a3.4)
 form_fine (form.CopyPtr p None) text h fine = let a1 = split text h fine in (name_fine p a1.0 a1.2 a1.4, tt)
 form_fine (form.Address p a) text h fine = let a1 = split text h fine in let a2 = split a1.1 a1.3 a1.5 in let a3 = split a2.1 a2.3 a2.5 in let a4 = split a3.1 a3.3 a3.5 in (name_fine p a1.0 a1.2 a1.4, name_fine a a4.0 a4.2 a4.4)

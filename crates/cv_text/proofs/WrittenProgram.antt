@@ -1,7 +1,7 @@
 -- A program that a text spells has the form that the grammar alone asks, where its contracts have.
-use Rattle.std.proofs.Common.{◌≡◌, ℕ, List, Option, Some, None}
+use Rattle.std.proofs.Common.{◌≡◌, ◌<◌, ℕ, List, Option, Some, None}
 use Rattle.std.specs.List.{All}
-use Rattle.cv_core.specs.Grammar.{IsName, IsGlobalBody, IsContract, IsBody, IsLocal, IsStmt, IsProc, IsWritten}
+use Rattle.cv_core.specs.Grammar.{IsName, AreBytes, IsGlobalBody, IsContract, IsBody, IsLocal, IsStmt, IsProc, IsWritten}
 use Rattle.cv_core.specs.declared.program.Program.{Program}
 use Rattle.cv_core.specs.declared.program.GlobalDecl.{GlobalDecl}
 use Rattle.cv_core.specs.declared.program.GlobalBody.{GlobalBody}
@@ -13,7 +13,7 @@ use Rattle.cv_core.specs.declared.program.Proc.{Proc}
 use Rattle.cv_core.specs.declared.program.ProcBody.{ProcBody}
 use Rattle.cv_text.specs.declared.token.Sign.TheVariants as sign
 use Rattle.cv_text.specs.Tokens.{Line}
-use Rattle.cv_text.specs.Grammar.{Mark, GlobalPhrase, GlobalText, LiteralText, FormalText, LocalText, Statement, variables_of}
+use Rattle.cv_text.specs.Grammar.{Mark, Byte, GlobalPhrase, GlobalText, LiteralText, FormalText, LocalText, Statement, variables_of}
 use Rattle.cv_text.specs.Clauses.{ContractText}
 use Rattle.cv_text.specs.Whole.{BodyText, ProcText, ProgramText}
 use Rattle.cv_text.proofs.Written.{AllFine, split, name_fine, each_fine, separated_fine, written_fine, local_fine}
@@ -28,8 +28,16 @@ global_fine g text h fine = let a1 = split text h fine in by_body g.name g.body 
     by_body x global_body.Pointer text h fine = let a1 = split text h fine in let a2 = split a1.1 a1.3 a1.5 in (name_fine x a2.0 a2.2 a2.4, tt)
     by_body x global_body.Int text h fine = let a1 = split text h fine in let a2 = split a1.1 a1.3 a1.5 in (name_fine x a2.0 a2.2 a2.4, tt)
 
-literal_fine : (l : Literal) (text : Line) → LiteralText l text → AllFine text → IsName l.name
-literal_fine l text h fine = let a1 = split text h fine in let a2 = split a1.1 a1.3 a1.5 in name_fine l.name a2.0 a2.2 a2.4
+byte_fine : (b : ℕ) (text : Line) → Byte b text → AllFine text → b < 256
+byte_fine b text h fine = h.1
+
+literal_fine : (l : Literal) (text : Line) → LiteralText l text → AllFine text → IsName l.name × AreBytes l.bytes
+literal_fine l text h fine =
+    let a1 = split text h fine in
+    let a2 = split a1.1 a1.3 a1.5 in
+    let a3 = split a2.1 a2.3 a2.5 in
+    let a4 = split a3.1 a3.3 a3.5 in
+    (name_fine l.name a2.0 a2.2 a2.4, separated_fine (λ b. b < 256) Byte (Mark sign.Comma) byte_fine l.bytes a4.0 a4.2 a4.4)
 
 formal_fine : (f : Formal) (text : Line) → FormalText f text → AllFine text → IsName f.name
 formal_fine f text h fine = let a1 = split text h fine in name_fine f.name a1.1 a1.3 a1.5
@@ -70,6 +78,6 @@ module _ (contract_fine : (c : Contract) (text : Line) → ContractText c text �
       let a2 = split a1.1 a1.3 a1.5 in
       record {
         globals = each_fine (λ g. IsName g.name × IsGlobalBody g.body) GlobalText global_fine p.globals a1.0 a1.2 a1.4;
-        literals = each_fine (λ l. IsName l.name) LiteralText literal_fine p.literals a2.0 a2.2 a2.4;
+        literals = each_fine (λ l. IsName l.name × AreBytes l.bytes) LiteralText literal_fine p.literals a2.0 a2.2 a2.4;
         procs = each_fine IsProc ProcText proc_fine p.procs a2.1 a2.3 a2.5;
       }

@@ -9,7 +9,7 @@ use Rattle.cv_text.specs.declared.faults.TextError.TheVariants as errors
 use Rattle.cv_text.specs.Tokens.{lexemes}
 use Rattle.cv_text.specs.Seen.{StandsAt}
 use Rattle.cv_text.specs.Given.{from}
-use Rattle.cv_text.specs.Whole.{ProgramText, Spells}
+use Rattle.cv_text.specs.Whole.{ProgramText}
 use Rattle.cv_text.specs.Lines.{line_of}
 use Rattle.cv_text.specs.ProgramReader.{is_within}
 

@@ -1,7 +1,6 @@
 -- Reading declarations and bodies.
 use Rattle.std.specs.Prelude.{ℕ, Bool, true, false, List, [], ◌++◌, Option, Some, None, Result}
 use Rattle.cv_core.specs.declared.program.GlobalDecl.{GlobalDecl}
-use Rattle.cv_core.specs.declared.program.GlobalBody.{GlobalBody}
 use Rattle.cv_core.specs.declared.program.GlobalBody.TheVariants as global_body
 use Rattle.cv_core.specs.declared.program.Literal.{Literal}
 use Rattle.cv_core.specs.declared.program.ResultKind.{ResultKind}
@@ -10,7 +9,6 @@ use Rattle.cv_core.specs.declared.program.VarKind.{VarKind}
 use Rattle.cv_core.specs.declared.program.VarKind.TheVariants as var_kind
 use Rattle.cv_core.specs.declared.program.Formal.{Formal}
 use Rattle.cv_core.specs.declared.program.Local.{Local}
-use Rattle.cv_core.specs.declared.program.LocalBody.{LocalBody}
 use Rattle.cv_core.specs.declared.program.LocalBody.TheVariants as local_body
 use Rattle.cv_core.specs.declared.program.Stmt.{Stmt}
 use Rattle.cv_core.specs.declared.program.ProcBody.{ProcBody}

@@ -13,7 +13,6 @@ pub mod NarrowReader
 pub mod WholeParts
 pub mod PrintedContract
 pub mod Printed
-pub mod Printable
 pub mod Known
 pub mod StatementReader
 pub mod DeclarationReader

@@ -1,5 +1,5 @@
 -- The one printed form of a program: each global, literal, heading, clause, brace, local and statement on a line of its own.
-use Rattle.std.specs.Prelude.{ℕ, Bool, true, false, List, [], ◌∷◌, ◌++◌, codes, decimal, flat_map, Option, Some, None, if◌then◌else◌}
+use Rattle.std.specs.Prelude.{ℕ, Bool, true, false, List, [], ◌∷◌, ◌++◌, codes, decimal, flat_map, Option, Some, None}
 use Rattle.std.specs.Fmt.{signed_decimal}
 use Rattle.cv_core.specs.Grammar.{Tree}
 use Rattle.cv_core.specs.declared.program.GlobalDecl.{GlobalDecl}
@@ -23,8 +23,6 @@ use Rattle.cv_core.specs.declared.program.Operand.{Operand}
 use Rattle.cv_core.specs.declared.program.Operand.TheVariants as operand
 use Rattle.cv_core.specs.declared.program.AnyOperand.{AnyOperand}
 use Rattle.cv_core.specs.declared.program.AnyOperand.TheVariants as any
-use Rattle.cv_core.specs.declared.program.Rel.{Rel}
-use Rattle.cv_core.specs.declared.program.Rel.TheVariants as rel
 use Rattle.cv_text.specs.PrintedContract.{joined, contract_text, rel_text}
 
 -- ---- statements

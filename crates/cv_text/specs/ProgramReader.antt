@@ -1,5 +1,5 @@
 -- Reading a program, where this is how a contract is read.
-use Rattle.std.specs.Prelude.{ℕ, ◌^◌, Bool, ◌||◌, List, [], ◌∷◌, ◌++◌, Option}
+use Rattle.std.specs.Prelude.{ℕ, ◌^◌, Bool, List, [], Option}
 use Rattle.std.specs.List.{list_all}
 use Rattle.cv_core.specs.declared.program.Program.{Program}
 use Rattle.cv_core.specs.declared.program.GlobalDecl.{GlobalDecl}
@@ -15,8 +15,8 @@ use Rattle.cv_text.specs.declared.token.Key.TheVariants as key
 use Rattle.cv_text.specs.declared.token.Sign.TheVariants as sign
 use Rattle.cv_text.specs.Tokens.{Lexeme}
 use Rattle.cv_text.specs.Levels.{contract_within, most_levels}
-use Rattle.cv_text.specs.Reader.{is_word, the_word, the_mark, a_name, within}
-use Rattle.cv_text.specs.DeclarationReader.{is_some, answer, formals, globals, literals, body}
+use Rattle.cv_text.specs.Reader.{the_word, the_mark, a_name, within}
+use Rattle.cv_text.specs.DeclarationReader.{answer, formals, globals, literals, body}
 
 -- ---- procedures
 
