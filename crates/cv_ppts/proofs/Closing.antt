@@ -124,10 +124,12 @@ closed_second s T o h l = answer_part T (λ R. (k : ℕ) → HoldsAt s R k) (Are
 -- ---- by number
 
 pub closed_none : (P : Program) (i : ℕ) (codes : List ℕ) (T : Sets) → slice_get P.procs i ≡ None → IsTrue true ↔ AreClosedFor P i codes T
+unfolding AreClosedFor
 closed_none P i codes T e = (λ t. subst (λ o. ClosedIn P o codes T) (sym e) tt, λ h. refl)
 
 pub closed_some : (P : Program) (i : ℕ) (f : Proc) (codes codes_are : List ℕ) (T U : Sets) (b : Bool) → slice_get P.procs i ≡ Some f → codes ≡ codes_are → T ≡ U →
     IsTrue b ↔ AreClosed (record { program = P; proc = f; codes = codes }) T → IsTrue b ↔ AreClosedFor P i codes_are U
+unfolding AreClosedFor
 closed_some P i f codes codes_are T U b e k same h =
     subst (λ o. IsTrue b ↔ ClosedIn P o codes_are U) (sym e)
     (subst (λ ks. IsTrue b ↔ AreClosed (record { program = P; proc = f; codes = ks }) U) k (subst (λ S. IsTrue b ↔ AreClosed (record { program = P; proc = f; codes = codes }) S) same h))

@@ -135,7 +135,7 @@ abbrev pub ClosedIn : Program → Option Proc → List ℕ → Sets → Type 0
 ClosedIn P None codes T = Unit {0}
 ClosedIn P (Some f) codes T = AreClosed (record { program = P; proc = f; codes = codes }) T
 
-abbrev pub AreClosedFor : Program → ℕ → List ℕ → Sets → Type 0
+unfoldable pub AreClosedFor : Program → ℕ → List ℕ → Sets → Type 0
 AreClosedFor P i codes T = ClosedIn P (slice_get P.procs i) codes T
 
 abbrev pub count_in : Program → Option Proc → List ℕ → ℕ

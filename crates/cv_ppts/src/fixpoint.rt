@@ -90,6 +90,7 @@ fn least_sets(alloc: Global, s: &Scope) -> Result<Vec<List<i32>>, AllocError>
     }
 }
 
+#[tactic(auto, unfolding(crate::specs::Targets::AreClosedFor))]
 fn least_targets(
     alloc: Global,
     p: &Program,

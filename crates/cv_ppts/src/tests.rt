@@ -1,12 +1,13 @@
 ghost use Rattle.std.specs.Prelude.{◌≡◌, ◌∷◌, [], All, IfOk, OnOk};
-ghost use Rattle.cv_core.specs.Grammar.{IsAtom, IsContract, IsForm, IsItem, IsLocal, IsMaybeName, IsName, IsStmt};
+ghost use Rattle.cv_core.specs.Grammar.{AreBytes, IsAtom, IsContract, IsFactor, IsForm, IsItem, IsLin, IsLocal, IsMaybeName, IsName, IsStmt};
 
 use crate::{Case, CaseError, Targets, cases, targets, targets_closed};
 use cv_core::{
-    AnyOperand, Atom, Bytes, Contract, Form, Formal, GlobalBody, GlobalDecl, Item, List, Literal,
-    Local, LocalBody, Operand, Proc, ProcBody, Program, PtrTerm, PtsTable, ResultKind, Stmt,
-    VarKind,
+    AnyOperand, Atom, Bytes, Contract, Form, Formal, GlobalBody, GlobalDecl, Item, LinPart, List,
+    Literal, Local, LocalBody, Operand, Proc, ProcBody, Program, PtrTerm, PtsTable, Rel,
+    ResultKind, Stmt, Term, VarKind,
 };
+use cv_points::least;
 use std::alloc::{AllocError, Global};
 use std::test::Fail;
 
@@ -183,7 +184,7 @@ fn change(alloc: Global, contract: Contract, item: Item) -> Result<Contract, All
 
 /// The literal L.
 fn literal(alloc: Global) -> Result<Literal, AllocError>
-    ensures { IfOk result (λ l. IsName l.name) }
+    ensures { IfOk result (λ l. IsName l.name × AreBytes l.bytes) }
 {
     let bytes = name(alloc, b"L".as_slice())?;
     Ok(Literal {
@@ -224,16 +225,134 @@ fn program(
     })
 }
 
-// ---- cases
-
-/// As many sets with the site 0.
-fn outside(alloc: Global, count: u8) -> Result<PtsTable, AllocError> {
-    let mut sets = none(alloc);
-    for _ in 0..count {
-        sets.push(List::from_slice(alloc, &[0u32])?)?;
-    }
-    Ok(PtsTable { sets })
+/// A sum of one part.
+fn sum(alloc: Global, part: LinPart) -> Result<List<LinPart>, AllocError>
+    requires { IsFactor part.number part.term }
+    ensures { IfOk result IsLin }
+{
+    let mut parts = none(alloc);
+    parts.push(part)?;
+    Ok(parts)
 }
+
+/// `alloc(p) >= 1`
+fn has_room(alloc: Global, p: &[u8]) -> Result<Atom, AllocError>
+    requires { IsName p.now }
+    ensures { IfOk result IsAtom }
+{
+    let text = name(alloc, p)?;
+    let size = LinPart {
+        negative: false,
+        number: None,
+        term: Some(Term::Alloc(PtrTerm::Name(text))),
+    };
+    let one = LinPart {
+        negative: false,
+        number: Some(1),
+        term: None,
+    };
+    Ok(Atom::Compare {
+        left: sum(alloc, size)?,
+        rel: Rel::Ge,
+        right: sum(alloc, one)?,
+    })
+}
+
+/// `alloc(d) >= 1, alloc(s) >= 1`
+fn have_room(alloc: Global) -> Result<List<Atom>, AllocError>
+    ensures { IfOk result (λ xs. All IsAtom xs) }
+{
+    let mut atoms = none(alloc);
+    atoms.push(has_room(alloc, b"d".as_slice())?)?;
+    atoms.push(has_room(alloc, b"s".as_slice())?)?;
+    Ok(atoms)
+}
+
+/// `alloc(d) >= 1, alloc(s) >= 1, apart(d, s)`
+fn have_room_apart(alloc: Global) -> Result<List<Atom>, AllocError>
+    ensures { IfOk result (λ xs. All IsAtom xs) }
+{
+    let one = name(alloc, b"d".as_slice())?;
+    let other = name(alloc, b"s".as_slice())?;
+    let mut atoms = have_room(alloc)?;
+    atoms.push(Atom::Apart(PtrTerm::Name(one), PtrTerm::Name(other)))?;
+    Ok(atoms)
+}
+
+/// `requires` these atoms `; modifies body(d);`
+fn writing(alloc: Global, needs: List<Atom>) -> Result<Contract, AllocError>
+    requires { All IsAtom needs }
+    ensures { IfOk result IsContract }
+{
+    let text = name(alloc, b"d".as_slice())?;
+    let mut changes = none(alloc);
+    changes.push(Item::Body(PtrTerm::Name(text)))?;
+    Ok(Contract {
+        listed: none(alloc),
+        needs,
+        changes,
+        gives: none(alloc),
+    })
+}
+
+/// `store d, 0; return 0;`
+fn written(alloc: Global) -> Result<List<Stmt>, AllocError>
+    ensures { IfOk result (λ xs. All IsStmt xs) }
+{
+    let p = name(alloc, b"d".as_slice())?;
+    let mut stmts = none(alloc);
+    then(
+        &mut stmts,
+        Form::Store {
+            p,
+            e: Operand::Number(0),
+        },
+    )?;
+    then(
+        &mut stmts,
+        Form::Return(Some(AnyOperand::Operand(Operand::Number(0)))),
+    )?;
+    Ok(stmts)
+}
+
+/// `ptr d, ptr s`
+fn two_pointers(alloc: Global) -> Result<List<Formal>, AllocError>
+    ensures { IfOk result (λ xs. All (λ x. IsName x.name) xs) }
+{
+    let mut formals = none(alloc);
+    put_formal(alloc, &mut formals, VarKind::Ptr, b"d".as_slice())?;
+    put_formal(alloc, &mut formals, VarKind::Ptr, b"s".as_slice())?;
+    Ok(formals)
+}
+
+/// `proc int main(ptr d, ptr s)`, which requires these atoms and stores 0 at d.
+fn storing(alloc: Global, needs: List<Atom>) -> Result<Program, AllocError>
+    requires { All IsAtom needs }
+{
+    let text = name(alloc, b"main".as_slice())?;
+    let formals = two_pointers(alloc)?;
+    let contract = writing(alloc, needs)?;
+    let stmts = written(alloc)?;
+    let mut procs = none(alloc);
+    procs.push(Proc {
+        line: 1,
+        answer: ResultKind::Int,
+        name: text,
+        formals,
+        contract,
+        body: Some(ProcBody {
+            locals: none(alloc),
+            stmts,
+        }),
+    })?;
+    Ok(Program {
+        globals: none(alloc),
+        literals: none(alloc),
+        procs,
+    })
+}
+
+// ---- cases
 
 /// As many `ptr` formals.
 fn pointers(alloc: Global, count: u8) -> Result<List<Formal>, AllocError>
@@ -261,17 +380,63 @@ fn is_case(case: Option<&Case>, codes: &[u32]) -> bool {
     }
 }
 
+/// The cases of main over the least family, where it requires these atoms.
+fn cases_of_main(alloc: Global, needs: List<Atom>) -> Result<Vec<Case>, Fail>
+    requires { All IsAtom needs }
+{
+    let p = storing(alloc, needs)?;
+    let table = least(alloc, &p)?;
+    let found = cases(alloc, &p, 0, &table)?;
+    Ok(found)
+}
+
 #[test]
 fn two_formals(rt: HostRuntime) -> Result<(), Fail> {
     let alloc = rt.alloc();
-    let p = entered(alloc, 2)?;
-    let found = cases(alloc, &p, 0, &outside(alloc, 2)?)?;
+    let found = cases_of_main(alloc, none(alloc))?;
     assert_eq!(rt; found.len(), 5);
     assert!(rt; is_case(found.get(0), &[0, 0]));
     assert!(rt; is_case(found.get(1), &[0, 1]));
     assert!(rt; is_case(found.get(2), &[1, 0]));
     assert!(rt; is_case(found.get(3), &[1, 1]));
     assert!(rt; is_case(found.get(4), &[1, 2]));
+    Ok(())
+}
+
+#[test]
+fn two_formals_with_objects(rt: HostRuntime) -> Result<(), Fail> {
+    let alloc = rt.alloc();
+    let found = cases_of_main(alloc, have_room(alloc)?)?;
+    assert_eq!(rt; found.len(), 2);
+    assert!(rt; is_case(found.get(0), &[1, 1]));
+    assert!(rt; is_case(found.get(1), &[1, 2]));
+    Ok(())
+}
+
+#[test]
+fn two_formals_apart(rt: HostRuntime) -> Result<(), Fail> {
+    let alloc = rt.alloc();
+    let found = cases_of_main(alloc, have_room_apart(alloc)?)?;
+    assert_eq!(rt; found.len(), 1);
+    assert!(rt; is_case(found.get(0), &[1, 2]));
+    Ok(())
+}
+
+/// Whether the set of a holder is {0}.
+fn is_outside(set: Option<&List<u32>>) -> bool {
+    match set {
+        None => false,
+        Some(set) => set.as_slice() == [0].as_slice(),
+    }
+}
+
+#[test]
+fn least_of_two_formals(rt: HostRuntime) -> Result<(), Fail> {
+    let alloc = rt.alloc();
+    let table = least(alloc, &storing(alloc, have_room(alloc)?)?)?;
+    assert_eq!(rt; table.sets.len(), 2);
+    assert!(rt; is_outside(table.sets.get(0)));
+    assert!(rt; is_outside(table.sets.get(1)));
     Ok(())
 }
 
