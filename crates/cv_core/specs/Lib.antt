@@ -13,3 +13,4 @@ pub mod Shape
 pub mod WellFormed
 pub mod Worked
 pub mod Tables
+pub mod Both

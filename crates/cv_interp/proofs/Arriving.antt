@@ -3,6 +3,7 @@ use Rattle.std.proofs.Common.{◌≡◌, refl, sym, ap, subst, ◌∙◌, ℕ, z
 use Rattle.std.specs.Prelude.{All, if◌then◌else◌, ℤ}
 use Rattle.std.specs.Str.{bytes_eq}
 use Rattle.std.proofs.lemmas.List.{length-map}
+use Rattle.cv_core.specs.Both.{first_true, second_true}
 use Rattle.cv_core.specs.Grammar.{IsLocal, IsLocalBody}
 use Rattle.cv_core.specs.Kinds.{takes, takes_each}
 use Rattle.cv_core.specs.Names.{Name, kind_among, locals_of}
@@ -28,7 +29,6 @@ use Rattle.cv_meaning.specs.State.{State, any_value, bind, fresh, fresh_bytes, f
 use Rattle.cv_core.specs.Chars.{low_byte}
 use Rattle.cv_interp.proofs.Kinded.{iptr_is, pptr_is}
 use Rattle.cv_interp.proofs.Memories.{IsObject, append_keeps, append_memory}
-use Rattle.cv_interp.proofs.Stepped.{first_true, second_true}
 use Rattle.cv_interp.proofs.Typed.{any_near, fit_keeps, fit_set}
 use Rattle.cv_interp.specs.Sound.{IsFit, IsMemory, Keeps, PointsToCell, is_cell_kind}
 use Rattle.cv_interp.specs.Takes.{IsNear}

@@ -3,6 +3,7 @@ use Rattle.std.proofs.Common.{◌≡◌, refl, ap, ℕ, Bool, true, false, not, 
 use Rattle.std.specs.Prelude.{slice_get, if◌then◌else◌}
 use Rattle.std.specs.Option.{is_none, unwrap_or}
 use Rattle.std.proofs.lemmas.Int.{ints}
+use Rattle.cv_core.specs.Both.{second_true}
 use Rattle.cv_core.specs.Headings.{ascend, breaks_extern, gives_range, greatest_of, has_extern_form, is_range, is_subject, least_of, lone_number, lone_term, number_alone}
 use Rattle.cv_core.specs.declared.program.Proc.{Proc}
 use Rattle.cv_core.specs.declared.program.ProcBody.{ProcBody}
@@ -13,7 +14,6 @@ use Rattle.cv_core.specs.declared.program.Term.{Term}
 use Rattle.cv_core.specs.declared.program.Rel.TheVariants as rel
 use Rattle.cv_meaning.specs.Call.{bound, first_alternative}
 use Rattle.cv_meaning.specs.Contract.{Scene, lin_value, signed}
-use Rattle.cv_interp.proofs.Stepped.{second_true}
 use Rattle.cv_interp.specs.Called.{bound_by, lone_or_zero, number_or_zero}
 
 signed_number : (b : Bool) (k : ℕ) → signed b (pos k) +ℤ pos 0 ≡ number_or_zero b (Some k)

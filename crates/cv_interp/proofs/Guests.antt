@@ -3,6 +3,7 @@ use Rattle.std.proofs.Common.{◌≡◌, refl, sym, ap, subst, ◌∙◌, ℕ, �
 use Rattle.std.specs.Prelude.{All, IsSome, slice_get, codes, if◌then◌else◌}
 use Rattle.std.specs.List.{list_all}
 use Rattle.std.specs.Str.{bytes_eq}
+use Rattle.cv_core.specs.Both.{first_true, second_true}
 use Rattle.cv_core.specs.Grammar.{IsBody, IsLocal, IsProc, IsWritten}
 use Rattle.cv_core.specs.Kinds.{calls, receives, takes_each}
 use Rattle.cv_core.specs.Meant.{built_in, called, kinds_of}
@@ -23,7 +24,6 @@ use Rattle.cv_interp.proofs.Calling.{IsPlain, Leads_on, getchar_later, give_late
 use Rattle.cv_interp.proofs.Kept.{locals_cells}
 use Rattle.cv_interp.proofs.Limited.{all_at}
 use Rattle.cv_interp.proofs.Named.{called_is}
-use Rattle.cv_interp.proofs.Stepped.{first_true, second_true}
 use Rattle.cv_interp.specs.Called.{IsInto}
 use Rattle.cv_interp.specs.Sound.{IsFit, IsState}
 

@@ -4,6 +4,7 @@ use Rattle.std.specs.Prelude.{All, slice_get, IsSome}
 use Rattle.std.specs.Str.{bytes_eq}
 use Rattle.std.proofs.lemmas.Bool.{ltb-false}
 use Rattle.std.proofs.lemmas.List.{length-append, length-replicate}
+use Rattle.cv_core.specs.Both.{first_true, second_true}
 use Rattle.cv_core.specs.Grammar.{IsGlobalBody, IsName, IsWritten}
 use Rattle.cv_core.specs.Limits.{first_limit, is_passed, passes, tested}
 use Rattle.cv_core.specs.Names.{Name, kind_among, locals_of}
@@ -29,7 +30,6 @@ use Rattle.cv_meaning.specs.State.{bind, no_vars}
 use Rattle.cv_interp.proofs.Arriving.{Holds, either_holds}
 use Rattle.cv_interp.proofs.Limited.{all_at, any_at, none_at}
 use Rattle.cv_interp.proofs.Memories.{IsObject, cell_of_object, some_cell}
-use Rattle.cv_interp.proofs.Stepped.{first_true, second_true}
 use Rattle.cv_interp.specs.Sound.{HasGlobals, IsFit, IsMemory, Keeps, is_cell_global, is_cell_kind}
 use Rattle.cv_interp.specs.Start.{HasFewBytes, arg_values, fit, fits_kind, global_body, global_objects, out_objects, start_memory, start_values}
 use Rattle.cv_interp.specs.Takes.{IsNear}

@@ -1,6 +1,7 @@
 -- Each step that is no call and no return is ready, and leads from a sound state to a sound one.
-use Rattle.std.proofs.Common.{◌≡◌, refl, sym, ap, ◌∙◌, ℕ, ◌+◌, ◌⊎◌, inl, inr, Bool, true, false, ◌&&◌, length, Option, Some, None, Ok, Err, arith, ℤ, pos, ◌+ℤ◌}
+use Rattle.std.proofs.Common.{◌≡◌, refl, sym, ap, ◌∙◌, ℕ, ◌+◌, ◌⊎◌, inl, inr, Bool, true, false, length, Option, Some, None, Ok, Err, arith, ℤ, pos, ◌+ℤ◌}
 use Rattle.std.specs.Prelude.{if◌then◌else◌, ◌-ℤ◌, ◌*ℤ◌, ◌==◌}
+use Rattle.cv_core.specs.Both.{first_true}
 use Rattle.cv_core.specs.Grammar.{IsForm}
 use Rattle.cv_core.specs.Kinds.{copies, has_kinds, held_by, means_iptr, means_number, means_pointer, means_pptr, means_ptr, points_to, puts, same_pointers}
 use Rattle.cv_core.specs.Meant.{meant_by_local, meant_in}
@@ -38,14 +39,6 @@ use Rattle.cv_interp.specs.Sound.{Fits, IsFit, IsState, Keeps, PointsToCell, is_
 use Rattle.cv_interp.specs.Takes.{HasSlot, IsNear, IsNearPtr, IsReady}
 
 -- ---- parts of tests
-
-pub first_true : (a b : Bool) → (a && b) ≡ true → a ≡ true
-first_true true b h = refl
-first_true false b h = cc
-
-pub second_true : (a b : Bool) → (a && b) ≡ true → b ≡ true
-second_true true b h = h
-second_true false b h = absurd (cc)
 
 pointer_variable : (b : Option LocalBody) → means_pointer (option_map meant_by_local b) ≡ true → (k : VarKind) × (b ≡ Some (local.Var k))
 pointer_variable None h = absurd (cc)

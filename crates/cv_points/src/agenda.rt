@@ -5,26 +5,37 @@ use std::alloc::{AllocError, Global};
 use std::collections::BinaryHeap;
 use std::mem;
 
-/// The rules that are due, by their numbers from 0 on. They are visited forward and backward by turns, so that a chain
-/// of inclusions takes few turns whatever its direction. A rule has the greater key the sooner it is visited: its
-/// number on the way back, and `usize::MAX` less its number on the way forward.
+/// The rules that are due, by their numbers from 0 on. They are visited group by group, forward and backward by turns:
+/// of a group the first rule that is due, until none of it is. So what a group lets grow has all come together before
+/// the next group reads it, and a chain of calls takes few turns whatever its direction. A rule has the greater key the
+/// sooner it is visited.
 #[derive(Drop)]
 pub(crate) struct Agenda {
+    /// For each rule the number of its group.
+    groups: Vec<usize>,
     /// The keys of the rules that this turn still comes to.
-    ahead: BinaryHeap<usize>,
+    ahead: BinaryHeap<(usize, usize)>,
     /// The keys of the others, as the next turn has them.
-    behind: BinaryHeap<usize>,
+    behind: BinaryHeap<(usize, usize)>,
     /// For each rule whether it is in one of the two.
     is_waiting: Vec<bool>,
-    /// Whether this turn goes from the last rule to the first.
+    /// Whether this turn goes from the last group to the first.
     is_back: bool,
-    /// The key of the rule that was visited last.
+    /// The rank of the group of the rule that was visited last.
     last: usize,
 }
 
-/// The key of the rule of a number, and the number of the rule of a key.
-fn key_of(number: usize, is_back: bool) -> usize {
-    if is_back { number } else { usize::MAX - number }
+/// The rank of a group: the greater the sooner it is visited.
+fn rank_of(group: usize, is_back: bool) -> usize {
+    if is_back { group } else { usize::MAX - group }
+}
+
+/// The group of a rule; 0 where it has none.
+fn group_of(groups: &[usize], number: usize) -> usize {
+    match groups.get(number) {
+        None => 0,
+        Some(group) => *group,
+    }
 }
 
 /// Sets whether a rule waits, and says whether that is new.
@@ -40,13 +51,18 @@ fn mark(is_waiting: &mut [bool], number: usize, waits: bool) -> bool {
 }
 
 impl Agenda {
-    /// So many rules, all of them due in their order.
-    pub(crate) fn full(alloc: Global, count: usize) -> Result<Agenda, AllocError> {
+    /// The rules of these groups, all of them due.
+    pub(crate) fn full(alloc: Global, groups: Vec<usize>) -> Result<Agenda, AllocError> {
+        let count = groups.len();
         let mut ahead = BinaryHeap::with_capacity(alloc, count)?;
         for number in 0..count {
-            ahead.push(key_of(number, false))?;
+            ahead.push((
+                rank_of(group_of(groups.as_slice(), number), false),
+                usize::MAX - number,
+            ))?;
         }
         Ok(Agenda {
+            groups,
             ahead,
             behind: BinaryHeap::new(alloc),
             is_waiting: vec![in alloc; true; count]?,
@@ -60,11 +76,12 @@ impl Agenda {
         if !mark(self.is_waiting.as_mut_slice(), number, true) {
             return Ok(());
         }
-        let key = key_of(number, self.is_back);
-        if key < self.last {
-            self.ahead.push(key)?;
+        let group = group_of(self.groups.as_slice(), number);
+        let rank = rank_of(group, self.is_back);
+        if rank <= self.last {
+            self.ahead.push((rank, usize::MAX - number))?;
         } else {
-            self.behind.push(usize::MAX - key)?;
+            self.behind.push((usize::MAX - rank, usize::MAX - number))?;
         }
         Ok(())
     }
@@ -90,9 +107,9 @@ impl Agenda {
         }
         match self.ahead.pop() {
             None => None,
-            Some(key) => {
-                let number = key_of(key, self.is_back);
-                self.last = key;
+            Some((rank, behind)) => {
+                let number = usize::MAX - behind;
+                self.last = rank;
                 mark(self.is_waiting.as_mut_slice(), number, false);
                 Some(number)
             }

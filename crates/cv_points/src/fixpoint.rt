@@ -8,6 +8,7 @@ ghost use Rattle.cv_points.specs.Least.{IsAscending, IsLeast};
 use crate::agenda::Agenda;
 use crate::collect::all_rules;
 use crate::distinct::distinct;
+use crate::groups::groups_of;
 use crate::growth::{apply, apply_all, empty_sets};
 use crate::holders::{first_holder, proc_count};
 use crate::places::cell_places;
@@ -58,18 +59,19 @@ fn visit(
     }
 }
 
-/// Lets sets grow by rules: first by each of them, and then by those that read a set that has grown, until there are
-/// none.
+/// Lets sets grow by rules, which belong to groups: first by each of them, and then by those that read a set that has
+/// grown, until there are none.
 fn flow(
     alloc: Global,
     cells: &[Option<usize>],
     rules: &[Rule],
+    groups: Vec<usize>,
     sets: &mut Vec<List<u32>>,
 ) -> Result<(), AllocError>
     ensures { OnOk result (Flows cells.now rules.now sets.old.items sets.new.items) }
 {
     let mut readers = Readers::of(alloc, rules, sets.len())?;
-    let mut agenda = Agenda::full(alloc, rules.len())?;
+    let mut agenda = Agenda::full(alloc, groups)?;
     for _ in 0..usize::MAX {
         match agenda.pop() {
             None => return Ok(()),
@@ -84,13 +86,14 @@ fn saturated(
     alloc: Global,
     cells: &[Option<usize>],
     rules: &[Rule],
+    groups: Vec<usize>,
     start: Vec<List<u32>>,
 ) -> Result<Vec<List<u32>>, AllocError>
     requires { IsTable (length start.items) start.items }
     ensures { IfOk result (λ sets. IsSaturated cells.now rules.now start.items sets.items) }
 {
     let mut sets = start;
-    flow(alloc, cells, rules, &mut sets)?;
+    flow(alloc, cells, rules, groups, &mut sets)?;
     while apply_all(alloc, cells, &mut sets, rules)? {}
     Ok(sets)
 }
@@ -103,8 +106,9 @@ fn least_sets(alloc: Global, p: &Program, count: usize) -> Result<Vec<List<u32>>
     let cells = cell_places(alloc, p)?;
     let listed = all_rules(alloc, p)?;
     let rules = distinct(alloc, listed.as_slice())?;
+    let groups = groups_of(alloc, p, rules.as_slice())?;
     let start = empty_sets(alloc, count)?;
-    let sets = saturated(alloc, cells.as_slice(), rules.as_slice(), start)?;
+    let sets = saturated(alloc, cells.as_slice(), rules.as_slice(), groups, start)?;
     Ok(sets)
 }
 
@@ -125,8 +129,8 @@ fn least_family(alloc: Global, p: &Program) -> Result<PtsTable, AllocError>
 /// The least closed family of a program: one ascending set of sites for each holder, closed under the rules of
 /// inclusion after Andersen, and within every closed family that has as many sets. An error is want of memory.
 /// The rules of all statements are listed, nearly all of them once. Each rule is due at first, and again where a set
-/// that it reads has grown; those that are due are visited in their order and back by turns. A visit takes one walk
-/// over the ascending sets that the rule joins. At the end all rules are tried once more.
+/// that it reads has grown; those that are due are visited procedure by procedure, forward and back by turns. A visit
+/// takes one walk over the ascending sets that the rule joins. At the end all rules are tried once more.
 pub fn least(alloc: Global, p: &Program) -> Result<PtsTable, AllocError>
     ensures counted { IfOk result (λ table. length table ≡ holders p.now) }
     ensures ascending { IfOk result (λ table. (h : ℕ) → IsAscending (set_at table h)) }

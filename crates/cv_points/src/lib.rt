@@ -7,6 +7,7 @@ mod check;
 mod collect;
 mod distinct;
 mod fixpoint;
+mod groups;
 mod growth;
 mod holders;
 mod merge;

@@ -1,8 +1,9 @@
 -- A statement that has its kinds is the one that the declarations choose where two are spelled alike.
-use Rattle.std.proofs.Common.{◌≡◌, Bool, true, false, ◌&&◌, cond, if◌then◌else◌, List, [], ◌∷◌, ◌++◌, Option, Some, None, refl, ap, ◌∙◌}
+use Rattle.std.proofs.Common.{◌≡◌, Bool, true, false, cond, if◌then◌else◌, List, [], ◌∷◌, ◌++◌, Option, Some, None, refl, ap, ◌∙◌}
 use Rattle.std.specs.Option.{option_map, option_or}
 use Rattle.std.specs.List.{All, find}
 use Rattle.std.specs.Str.{bytes_eq}
+use Rattle.cv_core.specs.Both.{first_true}
 use Rattle.cv_core.specs.Grammar.{Tree}
 use Rattle.cv_core.specs.Kinds.{has_kinds, means_number, means_ptr, same_pointers}
 use Rattle.cv_core.specs.Meant.{meant_by_global, meant_by_local, meant_in}
@@ -167,10 +168,6 @@ copies_of P f q = record { variable = own; global = outer; none = λ e. cc }
 
 -- ---- kinds of the name on the left
 
-both_true : (a b : Bool) → (a && b) ≡ true → a ≡ true
-both_true true b e = refl
-both_true false b e = cc
-
 as_number : (P : Program) (f : Proc) (x : Name) → means_number (meant_in P f x) ≡ true → is_pointer (f.formals ++ variables_of (locals_of f.body)) x ≡ false
 as_number P f x e =
     by_found meant_by_local meant_by_global means_number false numbers f.formals (locals_of f.body) x (find (λ y. bytes_eq y.name x) f.formals) (find (λ y. bytes_eq y.name x) (locals_of f.body))
@@ -188,9 +185,9 @@ as_copied P f x q e =
 
 -- a statement that has its kinds is as it is declared
 pub declared : (P : Program) (f : Proc) (form : Form) → has_kinds P f form ≡ true → AsDeclared (f.formals ++ variables_of (locals_of f.body)) form
-declared P f (form.Assign x (operand.Var y)) e = as_number P f x (both_true _ _ e)
+declared P f (form.Assign x (operand.Var y)) e = as_number P f x (first_true _ _ e)
 declared P f (form.Assign x (operand.Number z)) e = tt
-declared P f (form.Sum x (operand.Var y) g) e = as_number P f x (both_true _ _ (both_true _ _ e))
+declared P f (form.Sum x (operand.Var y) g) e = as_number P f x (first_true _ _ (first_true _ _ e))
 declared P f (form.Sum x (operand.Number z) g) e = tt
 declared P f (form.Minus x a b) e = tt
 declared P f (form.Product x k a) e = tt
@@ -199,7 +196,7 @@ declared P f (form.Remainder x a k) e = tt
 declared P f (form.CopyPtr p (Some q)) e = as_copied P f p q e
 declared P f (form.CopyPtr p None) e = tt
 declared P f (form.Address p a) e = tt
-declared P f (form.Shift p q a) e = as_text_pointer P f p (both_true _ _ (both_true _ _ e))
+declared P f (form.Shift p q a) e = as_text_pointer P f p (first_true _ _ (first_true _ _ e))
 declared P f (form.Load x p) e = tt
 declared P f (form.Store p a) e = tt
 declared P f (form.Get x w) e = tt

@@ -7,6 +7,7 @@ use Rattle.std.proofs.lemmas.List.Sums.{take_while-cons}
 use Rattle.std.proofs.lemmas.Bool.{le-leb}
 use Rattle.std.specs.Str.{bytes_eq}
 use Rattle.std.proofs.lemmas.Bool.Decides.{nat_tests}
+use Rattle.cv_core.specs.Both.{both_true}
 use Rattle.cv_core.specs.declared.program.Rel.{Rel}
 use Rattle.cv_core.specs.declared.program.Rel.TheVariants as rel
 use Rattle.cv_text.specs.PrintedContract.{rel_text}
@@ -103,11 +104,6 @@ none_taken : (p : ℕ → Bool) (rest : List ℕ) → fails_first p rest ≡ tru
 unfolding fails_first
 none_taken p [] h = refl
 none_taken p (c ∷ cs) h = take_while-cons p c cs ∙ ap (λ (b : Bool). cond b (c ∷ take_while p cs) []) (not_true (p c) h)
-
-both_true : (a b : Bool) → (a && b) ≡ true → (a ≡ true) × (b ≡ true)
-both_true true true h = (refl, refl)
-both_true true false h = absurd cc
-both_true false b h = absurd cc
 
 all_taken : (p : ℕ → Bool) (xs rest : List ℕ) → list_all p xs ≡ true → fails_first p rest ≡ true → take_while p (xs ++ rest) ≡ xs
 all_taken p [] rest h k = none_taken p rest k

@@ -1,7 +1,8 @@
 -- A program without a shape fault is printed as a text that spells it, within the levels that a text may open.
-use Rattle.std.proofs.Common.{◌≡◌, ℕ, zero, suc, ◌≤◌, Bool, true, false, ◌&&◌, nat_le, List, [], ◌∷◌, ◌++◌, Option, Some, None, Result, refl, slice_get, arith}
+use Rattle.std.proofs.Common.{◌≡◌, ℕ, ◌≤◌, true, nat_le, List, ◌++◌, Option, Some, None, Result, refl, slice_get, arith}
 use Rattle.std.proofs.lemmas.Bool.{le-leb}
-use Rattle.std.specs.List.{All, list_all}
+use Rattle.std.specs.List.{list_all}
+use Rattle.cv_core.specs.Both.{all_placed, each_placed, each_too, first_true, second_true, true_both}
 use Rattle.cv_core.specs.ContractForm.{alternative_formed, atom_formed, contract_formed, item_formed, part_formed, pointer_formed, pointer_held_formed, term_formed, term_held_formed}
 use Rattle.cv_core.specs.Grammar.{Tree, IsWritten}
 use Rattle.cv_core.specs.Names.{locals_of, stmts_of}
@@ -30,28 +31,6 @@ use Rattle.cv_text.specs.ProgramReader.{is_within}
 use Rattle.cv_text.specs.Whole.{Spells}
 use Rattle.cv_text.proofs.Declared.{AreDeclared, BodyDeclared, declared}
 use Rattle.cv_text.proofs.RespelledProgram.{printed_spells}
-
--- ---- what holds of each element of a list
-
-first_true : (a b : Bool) → (a && b) ≡ true → a ≡ true
-first_true true b e = refl
-first_true false b e = cc
-
-second_true : (a b : Bool) → (a && b) ≡ true → b ≡ true
-second_true true b e = e
-second_true false b e = cc
-
-both : (a b : Bool) → a ≡ true → b ≡ true → (a && b) ≡ true
-both true b h k = k
-both false b h k = cc
-
-each_too : {A : Type 0} (p q : A → Bool) → ((a : A) → p a ≡ true → q a ≡ true) → (xs : List A) → list_all p xs ≡ true → list_all q xs ≡ true
-each_too p q h [] e = refl
-each_too p q h (x ∷ xs) e = both (q x) (list_all q xs) (h x (first_true (p x) (list_all p xs) e)) (each_too p q h xs (second_true (p x) (list_all p xs) e))
-
-each_placed : {A : Type 0} (p : A → Bool) (xs : List A) → ((i : ℕ) (x : A) → slice_get xs i ≡ Some x → p x ≡ true) → list_all p xs ≡ true
-each_placed p [] h = refl
-each_placed p (x ∷ xs) h = both (p x) (list_all p xs) (h 0 x refl) (each_placed p xs (λ i y e. h (suc i) y e))
 
 -- ---- a contract of the right form has few levels
 
@@ -110,9 +89,9 @@ low_atom P f d (atom.Null p equal) e = low_pointer P f d p e
 low_atom P f d (atom.Nullt p) e = low_pointer P f d p e
 low_atom P f d (atom.Clear p) e = low_pointer P f d p e
 low_atom P f d (atom.Fresh p) e = low_pointer P f d p (second_true _ _ (first_true _ _ e))
-low_atom P f d (atom.Apart p q) e = both _ _ (low_pointer P f d p (first_true _ _ e)) (low_pointer P f d q (second_true _ _ e))
-low_atom P f d (atom.SameBase p q) e = both _ _ (low_pointer P f d p (first_true _ _ e)) (low_pointer P f d q (second_true _ _ e))
-low_atom P f d (atom.Compare left r right) e = both _ _ (low_sum P f d left (first_true _ _ e)) (low_sum P f d right (second_true _ _ e))
+low_atom P f d (atom.Apart p q) e = true_both _ _ (low_pointer P f d p (first_true _ _ e)) (low_pointer P f d q (second_true _ _ e))
+low_atom P f d (atom.SameBase p q) e = true_both _ _ (low_pointer P f d p (first_true _ _ e)) (low_pointer P f d q (second_true _ _ e))
+low_atom P f d (atom.Compare left r right) e = true_both _ _ (low_sum P f d left (first_true _ _ e)) (low_sum P f d right (second_true _ _ e))
 
 low_item : (P : Program) (f : Proc) (i : Item) → item_formed P f i ≡ true → item_within most_levels i ≡ true
 low_item P f (item.Body p) e = low_pointer P f _ p e
@@ -128,7 +107,7 @@ low_contract P f c e =
     let needs = each_too _ (atom_within most_levels) (low_atom P f _) c.needs (second_true _ _ (first_true _ _ front)) in
     let changes = each_too (item_formed P f) (item_within most_levels) (low_item P f) c.changes (second_true _ _ front) in
     let gives = each_too (alternative_formed P f) (list_all (atom_within most_levels)) (low_alternative P f) c.gives (second_true _ _ e) in
-    both _ _ (both _ _ needs changes) gives
+    true_both _ _ (true_both _ _ needs changes) gives
 
 pub shaped_within : (p : Tree) → IsWellFormed p → is_within p ≡ true
 shaped_within p w =
@@ -136,11 +115,6 @@ shaped_within p w =
     each_placed (λ f. contract_within most_levels f.contract) p.procs (λ i f at. low_contract p f f.contract (sound.headings i f at).formed)
 
 -- ---- its statements are as they are declared
-
-all_placed : {A : Type 0} (Q : A → Type 0) (xs : List A) → ((i : ℕ) (x : A) → slice_get xs i ≡ Some x → Q x) → All Q xs
-all_placed Q [] h i d lt = absurd (omega (arith, lt))
-all_placed Q (x ∷ xs) h zero d lt = h 0 x refl
-all_placed Q (x ∷ xs) h (suc i) d lt = all_placed Q xs (λ k y e. h (suc k) y e) i d (omega (arith, lt))
 
 body_declared : (f : Proc) (b : Option ProcBody) → ((k : ℕ) (s : Stmt) → slice_get (stmts_of b) k ≡ Some s → AsDeclared (f.formals ++ variables_of (locals_of b)) s.form) → BodyDeclared f.formals b
 body_declared f None h = tt

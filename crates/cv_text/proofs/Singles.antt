@@ -4,6 +4,7 @@ use Rattle.std.proofs.lemmas.Bool.{ltb-true, lt-ltb, leb-true, le-leb}
 use Rattle.std.proofs.lemmas.Slice.Eq.{bytes_eq-Decides}
 use Rattle.std.specs.Str.{bytes_eq}
 use Rattle.std.specs.List.{find}
+use Rattle.cv_core.specs.Both.{both_true}
 use Rattle.cv_reading.specs.Phrase.{one, ◌⋅◌}
 use Rattle.cv_reading.specs.Reading.{passed}
 use Rattle.cv_reading.proofs.Laws.{Reads, Only, Made, Or, BeginsElsewhere, reads_token, reads_exactly, reads_as, reads_made, reads_on}
@@ -133,11 +134,6 @@ unfolding a_name
 reads_a_name = reads_as (reads_token named (name []) [] refl) (λ x text k. k.2 ∙ ap (λ (u : Lexeme). u ∷ []) (named_is k.0 x k.1)) (λ x text k. (name x, refl, k))
 
 -- ---- digits
-
-both_true : (a b : Bool) → (a && b) ≡ true → (a ≡ true) × (b ≡ true)
-both_true true true h = (refl, refl)
-both_true true false h = absurd cc
-both_true false b h = absurd cc
 
 kept_is : (b : Bool) (v n : ℕ) → kept b v ≡ Some n → (b ≡ true) × (v ≡ n)
 kept_is true v n h = (refl, cc)
