@@ -1,5 +1,6 @@
 //! Ascending sets of sites.
-ghost use Rattle.std.specs.Prelude.{◌≡◌, ◌++◌, IfOk, MatchOption, false, true};
+ghost use Rattle.std.specs.Prelude.{◌≡◌, ◌++◌, IfOk, IsTrue, MatchOption, false, true};
+ghost use Rattle.cv_points.specs.Closed.{IsSubset};
 ghost use Rattle.cv_points.specs.Merge.{above, below, is_merged as is_merged_in, is_next, merge};
 
 use cv_core::List;
@@ -33,6 +34,13 @@ fn is_merged(from: &[u32], to: &[u32]) -> bool
         left = tail;
     }
     true
+}
+
+/// Whether one walk over two sets finds each site of `from` in `to`. It finds each that is there where both ascend.
+pub(crate) fn is_within(from: &[u32], to: &[u32]) -> bool
+    ensures { IsTrue result → IsSubset from.now to.now }
+{
+    is_merged(from, to)
 }
 
 /// Puts the sites of a set below `site` behind `items`, and gives those above it.

@@ -7,6 +7,7 @@ ghost use Rattle.cv_points.specs.Walks.{word_rule};
 ghost use Rattle.cv_points.specs.declared.rules.Rule.{Rule as RuleValue};
 
 use crate::holders::cell_place;
+use crate::merge::is_within;
 use crate::rules::Rule;
 use cv_core::{List, Program};
 
@@ -47,8 +48,8 @@ fn has_site_at(sets: &[List<u32>], place: usize, site: usize) -> bool
     has_site(set_at(sets, place), site)
 }
 
-/// The first site of `from` that `to` lacks.
-fn first_absent(from: &[u32], to: &[u32]) -> Option<usize>
+/// The first site of `from` that `to` lacks, by a search for each.
+fn first_searched(from: &[u32], to: &[u32]) -> Option<usize>
     ensures { MatchOption result (IsSubset from.now to.now) (λ s. Contains from.now s × (Contains to.now s → ⊥)) }
 {
     for s in from {
@@ -58,6 +59,17 @@ fn first_absent(from: &[u32], to: &[u32]) -> Option<usize>
         }
     }
     None
+}
+
+/// The first site of `from` that `to` lacks. Where both ascend and `to` lacks none, one walk over both is enough.
+fn first_absent(from: &[u32], to: &[u32]) -> Option<usize>
+    ensures { MatchOption result (IsSubset from.now to.now) (λ s. Contains from.now s × (Contains to.now s → ⊥)) }
+{
+    if is_within(from, to) {
+        None
+    } else {
+        first_searched(from, to)
+    }
 }
 
 /// A site in the set at `from` and not in the one at `to`.

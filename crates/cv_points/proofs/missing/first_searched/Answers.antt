@@ -1,6 +1,6 @@
 use Rattle.std.specs.List.{Contains}
 use Rattle.cv_points.proofs.Lists.{passed, all_passed}
-use Rattle.cv_points.proofs.missing.first_absent.Goals as goal
+use Rattle.cv_points.proofs.missing.first_searched.Goals as goal
 
 pub loop-s-preserved : goal.loop-s-preserved
 loop-s-preserved c = passed (Contains c.args.to.now) c.args.from.now c.loop-s.s-index c.loop-s-test.true c.loop-s.invariant c.if-not-has_site.ensures.answer
