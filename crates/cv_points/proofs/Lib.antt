@@ -1,4 +1,5 @@
 pub mod Added
+pub mod Cursors
 pub mod Grown
 pub mod Kept
 pub mod Lacking

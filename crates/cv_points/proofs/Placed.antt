@@ -8,8 +8,8 @@ use Rattle.cv_points.specs.declared.rules.Rule.{Rule}
 use Rattle.cv_points.specs.declared.rules.Rule.TheVariants as rule
 use Rattle.cv_points.specs.Growing.{ArePlaces, Places, numbered, place_at}
 use Rattle.cv_points.specs.Holders.{cell_number, cell_place, cells, first_holder}
-use Rattle.cv_points.specs.Walks.{walk}
-use Rattle.cv_points.proofs.Walked.{found, found-number}
+use Rattle.cv_points.specs.Walks.{found, walk}
+use Rattle.cv_points.proofs.Walked.{found-number}
 
 numbered-walk : (cs : List Bool) (n s : ℕ) → place_at (numbered n cs) s ≡ found (walk cs s n)
 numbered-walk [] n s = refl

@@ -11,7 +11,7 @@ use Rattle.cv_core.specs.declared.program.Local.{Local}
 use Rattle.cv_core.specs.declared.program.Proc.{Proc}
 use Rattle.cv_core.specs.declared.program.Program.{Program}
 use Rattle.cv_points.specs.Holders.{cell_number, cells, global_cells, object_cells, is_pointer_cell}
-use Rattle.cv_points.specs.Walks.{walk, then_walk}
+use Rattle.cv_points.specs.Walks.{found, then_walk, walk}
 use Rattle.cv_points.specs.declared.walk.Walk.{Walk}
 use Rattle.cv_points.specs.declared.walk.Walk.TheVariants as walked
 
@@ -21,10 +21,6 @@ walk-append (c ∷ cs) ys zero n = refl
 walk-append (c ∷ cs) ys (suc s) n = walk-append cs ys s (if c then suc n else n)
 
 -- ---- the number found
-
-abbrev pub found : Walk → Option ℕ
-found (walked.Found n) = n
-found (walked.Past s n) = None
 
 one_more : (b : Bool) (n a k : ℕ) → k ≡ 1 + a → option_map (λ m. suc n + m) (if b then Some a else None) ≡ option_map (λ m. n + m) (if b then Some k else None)
 one_more true n a k e = let f : suc n + a ≡ n + k = omega arith in ap (λ m. Some m) f

@@ -5,3 +5,4 @@ pub mod Missing
 pub mod Least
 pub mod Merge
 pub mod Growing
+pub mod Cursors

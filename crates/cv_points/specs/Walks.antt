@@ -21,6 +21,11 @@ abbrev pub then_walk : Walk → List Bool → Walk
 then_walk (walked.Found n) cs = walked.Found n
 then_walk (walked.Past skip seen) cs = walk cs skip seen
 
+-- the number that a walk finds
+abbrev pub found : Walk → Option ℕ
+found (walked.Found n) = n
+found (walked.Past skip seen) = None
+
 -- the greatest number of a word stands for all above
 abbrev pub word : ℕ → ℕ
 word n = min n (2 ^ 64 - 1)

@@ -5,6 +5,7 @@
 mod agenda;
 mod check;
 mod collect;
+mod cursor;
 mod distinct;
 mod fixpoint;
 mod groups;

@@ -2,11 +2,12 @@
 ghost use Rattle.std.specs.Prelude.{◌≡◌, ◌<◌, ◌^◌, Contains, MatchBool, MatchOption, Option as Maybe, length, ℕ};
 ghost use Rattle.std.specs.Option.{option_map};
 ghost use Rattle.cv_points.specs.Closed.{Holds, IsSubset, MaybeHolds, set_at as set_of};
+ghost use Rattle.cv_points.specs.Cursors.{IsCursor};
 ghost use Rattle.cv_points.specs.Missing.{CellRead, CellWritten, IsLacking, LacksFromCell, LacksInCell, LacksRead, LacksWritten, IsMissing, MaybeMissing, ReadsHold, WritesHold};
 ghost use Rattle.cv_points.specs.Walks.{word_rule};
 ghost use Rattle.cv_points.specs.declared.rules.Rule.{Rule as RuleValue};
 
-use crate::holders::cell_place;
+use crate::cursor::{Cursor, cell_place_from, first_cursor};
 use crate::merge::is_within;
 use crate::rules::Rule;
 use cv_core::{List, Program};
@@ -83,20 +84,36 @@ fn missing_within(sets: &[List<u32>], from: usize, to: usize) -> Option<Missing>
 }
 
 /// A site that the cell at `pointed` holds and the set at `to` lacks.
-fn missing_from_cell(p: &Program, sets: &[List<u32>], pointed: usize, to: usize) -> Option<Missing>
-    ensures { MatchOption result (CellRead p.now sets.now pointed to) (λ m. (m.to ≡ to) × LacksFromCell p.now sets.now pointed to m.site) }
+fn missing_from_cell(
+    p: &Program,
+    sets: &[List<u32>],
+    at: &mut Cursor,
+    pointed: usize,
+    to: usize,
+) -> Option<Missing>
+    requires { IsCursor p.now at.old }
+    ensures missing { MatchOption result (CellRead p.now sets.now pointed to) (λ m. (m.to ≡ to) × LacksFromCell p.now sets.now pointed to m.site) }
+    ensures cursor { IsCursor p.now at.new }
 {
-    match cell_place(p, pointed) {
+    match cell_place_from(p, at, pointed) {
         None => None,
         Some(cell) => missing_within(sets, cell, to),
     }
 }
 
 /// A site that the set at `from` has and the cell at `pointed` lacks.
-fn missing_in_cell(p: &Program, sets: &[List<u32>], from: usize, pointed: usize) -> Option<Missing>
-    ensures { MatchOption result (CellWritten p.now sets.now from pointed) (λ m. LacksInCell p.now sets.now from pointed m.to m.site) }
+fn missing_in_cell(
+    p: &Program,
+    sets: &[List<u32>],
+    at: &mut Cursor,
+    from: usize,
+    pointed: usize,
+) -> Option<Missing>
+    requires { IsCursor p.now at.old }
+    ensures missing { MatchOption result (CellWritten p.now sets.now from pointed) (λ m. LacksInCell p.now sets.now from pointed m.to m.site) }
+    ensures cursor { IsCursor p.now at.new }
 {
-    match cell_place(p, pointed) {
+    match cell_place_from(p, at, pointed) {
         None => None,
         Some(cell) => missing_within(sets, from, cell),
     }
@@ -107,8 +124,9 @@ fn missing_read(p: &Program, sets: &[List<u32>], pointer: usize, to: usize) -> O
     ensures { MatchOption result (ReadsHold p.now sets.now pointer to) (λ m. (m.to ≡ to) × LacksRead p.now sets.now pointer to m.site) }
 {
     let pointed = set_at(sets, pointer);
+    let mut at = first_cursor(p);
     for s in pointed {
-        match missing_from_cell(p, sets, *s as usize, to) {
+        match missing_from_cell(p, sets, &mut at, *s as usize, to) {
             None => {}
             Some(missing) => return Some(missing),
         }
@@ -121,8 +139,9 @@ fn missing_write(p: &Program, sets: &[List<u32>], from: usize, pointer: usize) -
     ensures { MatchOption result (WritesHold p.now sets.now from pointer) (λ m. LacksWritten p.now sets.now from pointer m.to m.site) }
 {
     let pointed = set_at(sets, pointer);
+    let mut at = first_cursor(p);
     for s in pointed {
-        match missing_in_cell(p, sets, from, *s as usize) {
+        match missing_in_cell(p, sets, &mut at, from, *s as usize) {
             None => {}
             Some(missing) => return Some(missing),
         }

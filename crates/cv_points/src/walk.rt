@@ -78,7 +78,7 @@ fn walk_locals(locals: &[Local], from: usize, before: usize) -> Walk
 }
 
 /// Walks over the objects of a procedure.
-fn walk_proc(f: &Proc, from: usize, before: usize) -> Walk
+pub(crate) fn walk_proc(f: &Proc, from: usize, before: usize) -> Walk
     requires { from + before < 2 ^ 64 }
     ensures end { result ≡ walk (map (λ l. pointer_cell l.body) (objects_of f.now)) from before }
     ensures shorter { IsShorter (from + before) result }

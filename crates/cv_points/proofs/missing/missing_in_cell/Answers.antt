@@ -19,9 +19,9 @@ written P S from pointed n w h cell e =
 lacking : (P : Program) (S : Family) (from pointed n to site : ℕ) → IsWordOf (cell_place P pointed) n → to ≡ n → IsLacking S from n site → LacksInCell P S from pointed to site
 lacking P S from pointed n to site w e h = record { cell = w.whole; is_cell = w.is; place = e ∙ w.word_is; lacks = subst (λ v. IsLacking S from v site) (sym e) h }
 
-pub returns-in-Some : goal.returns-in-Some
-returns-in-Some c =
-    let w = word_of (cell_place c.args.p.now c.args.pointed) c.in-Some.cell c.in-Some.ensures in
+pub returns-in-Some-clause-missing : goal.returns-in-Some-clause-missing
+returns-in-Some-clause-missing c =
+    let w = word_of (cell_place c.args.p.now c.args.pointed) c.in-Some.cell c.in-Some.ensures.place in
     match_map (IsSubset (set_at c.args.sets.now c.args.from) (set_at c.args.sets.now c.in-Some.cell)) (CellWritten c.args.p.now c.args.sets.now c.args.from c.args.pointed)
     (λ (m : Missing). (m.to ≡ c.in-Some.cell) × IsLacking c.args.sets.now c.args.from c.in-Some.cell m.site)
     (λ (m : Missing). LacksInCell c.args.p.now c.args.sets.now c.args.from c.args.pointed m.to m.site)
