@@ -8,8 +8,6 @@ mod devices;
 mod host;
 mod memory;
 mod store;
-#[cfg(test)]
-mod tests;
 
 pub use devices::{Failed, Sink, SinkError, Source, Store, StoreError};
 pub use host::{HostErr, HostIn, HostOut, HostStore};

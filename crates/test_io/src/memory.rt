@@ -1,4 +1,10 @@
-use super::*;
+//! Devices in memory, those that never fail and those of which some calls fail.
+
+use crate::loads::load_all;
+use cv_io::{
+    MemSink, MemSource, MemStore, Sink, SinkError, Source, SteadySink, SteadySource, SteadyStore,
+    Store, StoreError,
+};
 use std::alloc::{AllocError, Global};
 use std::process::Abort;
 use std::test::Fail;
@@ -9,6 +15,7 @@ fn bytes_of(alloc: Global, text: &str) -> Result<Vec<u8>, AllocError> {
     Vec::from_slice(alloc, text.as_bytes())
 }
 
+/// The files `a` of three bytes and `b` of none.
 fn files(alloc: Global) -> Result<Vec<(Vec<u8>, Vec<u8>)>, AllocError> {
     let mut all = Vec::new(alloc);
     all.push((bytes_of(alloc, "a")?, bytes_of(alloc, "one")?))?;
@@ -27,7 +34,7 @@ fn counts_of<S: Source>(source: &mut S) -> [usize; 4] {
 }
 
 #[test]
-fn sources_give_their_bytes(rt: HostRuntime) -> Result<(), Fail> {
+fn sources_give_their_bytes_between_failing_calls(rt: HostRuntime) -> Result<(), Fail> {
     let alloc = rt.alloc();
     let mut steady = SteadySource::new(bytes_of(alloc, "hello")?);
     assert_eq!(rt; counts_of(&mut steady), [3, 2, 0, 0]);
@@ -37,34 +44,24 @@ fn sources_give_their_bytes(rt: HostRuntime) -> Result<(), Fail> {
     Ok(())
 }
 
-#[test]
-fn sinks_keep_what_is_written(rt: HostRuntime) -> Result<(), Fail> {
-    let alloc = rt.alloc();
-    let mut steady = SteadySink::new(alloc);
-    assert_eq!(rt; steady.write(b"ab"), Ok(()));
-    assert_eq!(rt; steady.write(b"c"), Ok(()));
-    assert_eq!(rt; steady.bytes(), b"abc".as_slice());
-    let mut sink = MemSink::new(alloc, vec![in alloc; 1]?);
-    assert_eq!(rt; sink.write(b"ab"), Ok(()));
-    assert_eq!(rt; sink.write(b"c"), Err(SinkError::Failed));
-    assert_eq!(rt; sink.write(b"d"), Ok(()));
-    assert_eq!(rt; sink.bytes(), b"abd".as_slice());
-    Ok(())
+/// Writes each row's bytes in turn and compares the answer.
+fn write_all<S: Sink>(rt: &impl Abort, sink: &mut S, table: &[(&str, Result<(), SinkError>)]) {
+    for (bytes, want) in table {
+        assert_eq!(rt; sink.write(bytes.as_bytes()), *want, "{bytes}");
+    }
 }
 
-/// Loads each name with its limit, and compares the number of bytes, or the error.
-fn loads<S: Store>(
-    rt: &impl Abort,
-    alloc: Global,
-    store: &mut S,
-    table: &[(&str, u64, Result<usize, StoreError>)],
-) {
-    for (name, limit, want) in table {
-        let got = store
-            .load(alloc, name.as_bytes(), *limit)
-            .map(|bytes| bytes.len());
-        assert_eq!(rt; got, *want, "{name} with limit {limit}");
-    }
+#[test]
+fn sinks_keep_what_is_written_between_failing_calls(rt: HostRuntime) -> Result<(), Fail> {
+    let alloc = rt.alloc();
+    let mut steady = SteadySink::new(alloc);
+    write_all(&rt, &mut steady, &[("ab", Ok(())), ("c", Ok(()))]);
+    assert_eq!(rt; steady.bytes(), b"abc".as_slice());
+    let mut sink = MemSink::new(alloc, vec![in alloc; 1]?);
+    let table = [("ab", Ok(())), ("c", Err(SinkError::Failed)), ("d", Ok(()))];
+    write_all(&rt, &mut sink, &table);
+    assert_eq!(rt; sink.bytes(), b"abd".as_slice());
+    Ok(())
 }
 
 /// Saves bytes under `a` twice, and says what each save answered.
@@ -82,7 +79,7 @@ fn a_steady_store_loads_and_saves(rt: HostRuntime) -> Result<(), Fail> {
         ("b", 0, Ok(0)),
         ("c", 9, Err(StoreError::Failed)),
     ];
-    loads(&rt, alloc, &mut store, &table);
+    load_all(&rt, alloc, &mut store, &table);
     assert_eq!(rt; saves(&mut store), [Ok(()), Ok(())]);
     assert_eq!(rt; store.bytes(b"a"), Some(b"newer".as_slice()));
     assert_eq!(rt; store.bytes(b"d"), None);
@@ -98,53 +95,8 @@ fn a_store_fails_where_it_is_to(rt: HostRuntime) -> Result<(), Fail> {
         ("a", 3, Ok(3)),
         ("c", 3, Err(StoreError::Failed)),
     ];
-    loads(&rt, alloc, &mut store, &table);
+    load_all(&rt, alloc, &mut store, &table);
     assert_eq!(rt; saves(&mut store), [Err(StoreError::Failed), Ok(())]);
     assert_eq!(rt; store.bytes(b"a"), Some(b"newer".as_slice()));
     Ok(())
-}
-
-#[test]
-fn host_files_load_and_save(rt: HostRuntime) -> Result<(), Fail> {
-    let alloc = rt.alloc();
-    let mut store = HostStore::new(rt);
-    let text = vec![in alloc; b'x'; 40000]?;
-    assert_eq!(rt; store.save(b"host-store.txt", text.as_slice()), Ok(()));
-    assert_eq!(rt;
-        store.load(alloc, b"host-store.txt", 40000)?.as_slice(),
-        text.as_slice()
-    );
-    let table = [
-        ("host-store.txt", 39999, Err(StoreError::TooLong)),
-        ("no-such-file", 9, Err(StoreError::Failed)),
-        (".", 9, Err(StoreError::Failed)),
-    ];
-    loads(&rt, alloc, &mut store, &table);
-    let unnamed = store.load(alloc, b"\xff", 9).map(|bytes| bytes.len());
-    assert_eq!(rt; unnamed, Err(StoreError::Failed));
-    assert_eq!(rt; store.save(b"\xff", b""), Err(StoreError::Failed));
-    assert_eq!(rt;
-        store.save(b"no-such-folder/a", b""),
-        Err(StoreError::Failed)
-    );
-    Ok(())
-}
-
-#[test]
-fn host_input_is_read(rt: HostRuntime) {
-    let mut input = HostIn::new(rt.stdin());
-    let mut into = [0u8; 4];
-    assert!(rt; input.read(&mut into).is_ok());
-}
-
-#[test]
-fn host_output_is_written(rt: HostRuntime) {
-    let mut out = HostOut::new(rt.stdout());
-    assert_eq!(rt; out.write(b"to standard output\n"), Ok(()));
-}
-
-#[test]
-fn host_errors_are_written(rt: HostRuntime) {
-    let mut errs = HostErr::new(rt.stderr());
-    assert_eq!(rt; errs.write(b"to standard error\n"), Ok(()));
 }
