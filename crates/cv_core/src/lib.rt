@@ -27,6 +27,3 @@ pub use program::{
 };
 pub use shape::{ShapeError, check_shape};
 pub use sqlite_items::Boxed;
-
-#[cfg(test)]
-mod tests;

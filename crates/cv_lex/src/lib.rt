@@ -6,8 +6,6 @@ mod bytes;
 mod lexer;
 mod number;
 mod quoted;
-#[cfg(test)]
-mod tests;
 mod token;
 
 pub use lexer::Lexer;

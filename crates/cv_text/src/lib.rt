@@ -3,10 +3,6 @@
 
 mod atoms;
 mod contract;
-#[cfg(test)]
-mod contract_tests;
-#[cfg(test)]
-mod core_tests;
 mod cursor;
 mod declarations;
 mod faults;
@@ -23,8 +19,6 @@ mod programs;
 mod statements;
 mod sums;
 mod terms;
-#[cfg(test)]
-mod tests;
 mod token;
 
 pub use contract::read_contract;
