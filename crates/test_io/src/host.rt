@@ -1,5 +1,5 @@
-//! The host's files and streams. No contract tells what the system gives or takes, so only these tests refuse an
-//! adapter that does nothing.
+//! The host's files and streams. No contract tells what the system gives or takes, so only these
+//! tests refuse an adapter that does nothing.
 
 use crate::loads::load_all;
 use cv_io::{HostErr, HostIn, HostOut, HostStore, Sink, Source, Store, StoreError};
