@@ -17,6 +17,3 @@ pub use certificate::{Block, Cert, CertCase};
 pub use fault::CertError;
 pub use read::{one_text_law, read_cert};
 pub use write::write_cert;
-
-#[cfg(test)]
-mod tests;

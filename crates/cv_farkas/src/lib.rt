@@ -9,6 +9,3 @@ mod steps;
 
 pub use directly::{direct, direct_law};
 pub use steps::{Step, prove, step_holds, step_law};
-
-#[cfg(test)]
-mod tests;

@@ -1,5 +1,5 @@
 //! Texts with one line changed, and texts cut at each byte.
-use crate::{CertError, read_cert, write_cert};
+use cv_cert::{CertError, read_cert, write_cert};
 use std::alloc::{AllocError, Global};
 use std::test::Fail;
 

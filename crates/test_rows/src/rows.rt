@@ -1,14 +1,18 @@
 //! Rows as a caller makes and changes them.
 ghost use Rattle.std.specs.Prelude.{◌≤◌, IfOk, length};
 
-use crate::{Assign, Row, RowError, Wide, add_scaled, gcd_reduce, row, subst, value, widen};
+use cv_num::{Assign, Row, RowError, Wide, add_scaled, gcd_reduce, row, subst, value, widen};
 use std::alloc::{AllocError, Global};
 use std::test::Fail;
 
+/// A coefficient of x0 and a constant.
+type One = (i64, i64);
+
 /// The row `coefficient * x0 + constant`.
-fn one(alloc: Global, coefficient: i64, constant: i64) -> Result<Row, RowError>
+fn one(alloc: Global, parts: One) -> Result<Row, RowError>
     ensures { IfOk result (λ r. length r.pairs ≤ 1) }
 {
+    let (coefficient, constant) = parts;
     if coefficient == 0 {
         row(alloc, &[], constant)
     } else {
@@ -17,7 +21,7 @@ fn one(alloc: Global, coefficient: i64, constant: i64) -> Result<Row, RowError>
 }
 
 /// The coefficient of x0, where no other variable has one, and the constant.
-fn parts_of(r: &Row) -> Option<(i64, i64)> {
+fn parts_of(r: &Row) -> Option<One> {
     match r.pairs.as_slice() {
         [] => Some((0, r.constant)),
         [(variable, coefficient)] => {
@@ -38,43 +42,47 @@ fn is_made(alloc: Global, pairs: &[(u32, i64)]) -> bool {
     }
 }
 
+/// Pairs, and whether they are a row's.
+const PAIRS: [([(u32, i64); 2], bool); 5] = [
+    ([(0, 1), (1, 1)], true),
+    ([(0, i64::MIN), (4294967295, i64::MAX)], true),
+    ([(1, 1), (0, 1)], false),
+    ([(0, 1), (0, 1)], false),
+    ([(0, 1), (1, 0)], false),
+];
+
 #[test]
 fn rows_have_ascending_pairs(rt: HostRuntime) {
-    let table = [
-        ([(0, 1), (1, 1)], true),
-        ([(0, i64::MIN), (4294967295, i64::MAX)], true),
-        ([(1, 1), (0, 1)], false),
-        ([(0, 1), (0, 1)], false),
-        ([(0, 1), (1, 0)], false),
-    ];
-    for (pairs, made) in &table {
-        assert_eq!(rt; is_made(rt.alloc(), pairs), *made);
+    for (pairs, made) in &PAIRS {
+        assert_eq!(rt; is_made(rt.alloc(), pairs), *made, "{pairs:?}");
     }
 }
 
-/// `a + k * b` of rows of x0 alone, as `parts_of` has it; None where it leaves 64 bits.
-fn sum(alloc: Global, a: (i64, i64), k: i64, b: (i64, i64)) -> Result<Option<(i64, i64)>, Fail> {
-    let left = one(alloc, a.0, a.1)?;
-    let right = one(alloc, b.0, b.1)?;
+/// `a + k * b` of rows of x0 alone; None where it leaves 64 bits.
+fn sum(alloc: Global, a: One, k: i64, b: One) -> Result<Option<One>, Fail> {
+    let left = one(alloc, a)?;
+    let right = one(alloc, b)?;
     match add_scaled(alloc, &left, k, &right)? {
         Some(both) => Ok(parts_of(&both)),
         None => Ok(None),
     }
 }
 
+/// a, k and b, and `a + k * b`.
+const SUMS: [(One, i64, One, Option<One>); 7] = [
+    ((i64::MAX, 5), 1, (1, 0), None),
+    ((i64::MAX, 5), -1, (i64::MAX, 5), Some((0, 0))),
+    ((0, 0), -1, (i64::MIN, 0), None),
+    ((0, 0), -1, (0, i64::MIN), None),
+    ((0, 0), i64::MIN, (1, 0), Some((i64::MIN, 0))),
+    ((1, 2), -9, (3, -1), Some((-26, 11))),
+    ((3, 2), 0, (7, 7), Some((3, 2))),
+];
+
 #[test]
 fn sums_are_exact(rt: HostRuntime) -> Result<(), Fail> {
-    let table = [
-        ((i64::MAX, 5), 1, (1, 0), None),
-        ((i64::MAX, 5), -1, (i64::MAX, 5), Some((0, 0))),
-        ((0, 0), -1, (i64::MIN, 0), None),
-        ((0, 0), -1, (0, i64::MIN), None),
-        ((0, 0), i64::MIN, (1, 0), Some((i64::MIN, 0))),
-        ((1, 2), -9, (3, -1), Some((-26, 11))),
-        ((3, 2), 0, (7, 7), Some((3, 2))),
-    ];
-    for (a, k, b, expected) in &table {
-        assert_eq!(rt; sum(rt.alloc(), *a, *k, *b)?, *expected);
+    for (a, k, b, expected) in &SUMS {
+        assert_eq!(rt; sum(rt.alloc(), *a, *k, *b)?, *expected, "{a:?} {k} {b:?}");
     }
     Ok(())
 }
@@ -100,7 +108,7 @@ fn long_rows_cancel(rt: HostRuntime) -> Result<(), Fail> {
 
 /// `x0 - 1` with `x1 + 3` in place of x0.
 fn replaced(alloc: Global) -> Result<Wide, Fail> {
-    let r = one(alloc, 1, -1)?;
+    let r = one(alloc, (1, -1))?;
     let image = row(alloc, &[(1, 1)], 3)?;
     match Assign::from_vec(vec![in alloc; (0, image)]?) {
         Some(by) => Ok(subst(alloc, &r, &by)?),
@@ -110,8 +118,8 @@ fn replaced(alloc: Global) -> Result<Wide, Fail> {
 
 /// Whether one variable may be assigned twice.
 fn may_repeat(alloc: Global) -> Result<bool, Fail> {
-    let first = one(alloc, 0, 0)?;
-    let second = one(alloc, 0, 0)?;
+    let first = one(alloc, (0, 0))?;
+    let second = one(alloc, (0, 0))?;
     Ok(Assign::from_vec(vec![in alloc; (3, first), (3, second)]?).is_some())
 }
 
@@ -124,9 +132,9 @@ fn rows_stand_in_place_of_variables(rt: HostRuntime) -> Result<(), Fail> {
     Ok(())
 }
 
-/// The value of a row of x0 alone.
-fn value_at(alloc: Global, r: (i64, i64), x: i64) -> Result<Option<i128>, Fail> {
-    let made = one(alloc, r.0, r.1)?;
+/// The value of a row of x0 alone; None too where x0 has none, since it is too large.
+fn value_at(alloc: Global, r: One, x: i64) -> Result<Option<i128>, Fail> {
+    let made = one(alloc, r)?;
     if -1099511627776 <= x && x <= 1099511627776 {
         Ok(value(&made, &[x]))
     } else {
@@ -134,36 +142,45 @@ fn value_at(alloc: Global, r: (i64, i64), x: i64) -> Result<Option<i128>, Fail> 
     }
 }
 
+/// A row of x0, what x0 is, and what the row is worth.
+const VALUES: [(One, i64, Option<i128>); 4] = [
+    ((2, 3), 5, Some(13)),
+    (
+        (i64::MIN, 3),
+        1099511627776,
+        Some(-10141204801825835211973625643005),
+    ),
+    ((2, 3), i64::MAX, None),
+    ((0, 3), i64::MAX, Some(3)),
+];
+
+#[test]
+fn rows_have_values(rt: HostRuntime) -> Result<(), Fail> {
+    for (r, x, expected) in &VALUES {
+        assert_eq!(rt; value_at(rt.alloc(), *r, *x)?, *expected, "{r:?} {x}");
+    }
+    Ok(())
+}
+
 /// A row of x0 alone after its reduction.
-fn reduced(alloc: Global, r: (i64, i64)) -> Result<Option<(i64, i64)>, Fail> {
-    let mut made = one(alloc, r.0, r.1)?;
+fn reduced(alloc: Global, r: One) -> Result<Option<One>, Fail> {
+    let mut made = one(alloc, r)?;
     gcd_reduce(&mut made);
     Ok(parts_of(&made))
 }
 
+/// A row of x0, and what it is reduced to.
+const REDUCED: [(One, One); 4] = [
+    ((4, -5), (1, -2)),
+    ((i64::MIN, i64::MIN), (-1, -1)),
+    ((-6, 5), (-1, 0)),
+    ((0, -5), (0, -5)),
+];
+
 #[test]
-fn values_and_divisors(rt: HostRuntime) -> Result<(), Fail> {
-    let values = [
-        ((2, 3), 5, Some(13)),
-        (
-            (i64::MIN, 3),
-            1099511627776,
-            Some(3 - 10141204801825835211973625643008),
-        ),
-        ((2, 3), i64::MAX, None),
-        ((0, 3), i64::MAX, Some(3)),
-    ];
-    for (r, x, expected) in &values {
-        assert_eq!(rt; value_at(rt.alloc(), *r, *x)?, *expected);
-    }
-    let divided = [
-        ((4, -5), (1, -2)),
-        ((i64::MIN, i64::MIN), (-1, -1)),
-        ((-6, 5), (-1, 0)),
-        ((0, -5), (0, -5)),
-    ];
-    for (r, expected) in &divided {
-        assert_eq!(rt; reduced(rt.alloc(), *r)?, Some(*expected));
+fn constants_are_floors(rt: HostRuntime) -> Result<(), Fail> {
+    for (r, expected) in &REDUCED {
+        assert_eq!(rt; reduced(rt.alloc(), *r)?, Some(*expected), "{r:?}");
     }
     Ok(())
 }

@@ -2,14 +2,15 @@
 ghost use Rattle.std.specs.Prelude.{◌≤◌, ◌^◌, All, IfOk};
 ghost use Rattle.std.specs.Int.RustNames.{unsigned_abs};
 
-use crate::{Step, direct, prove, step_holds};
+use cv_farkas::{Step, direct, prove, step_holds};
 use cv_list::List;
 use cv_num::{Row, Wide, row, widen};
 use std::alloc::{AllocError, Global};
 use std::test::Fail;
 
 fn wide(alloc: Global, pairs: &[(u32, i64)], constant: i64) -> Result<Wide, Fail>
-    ensures { IfOk result (λ w. All (λ p. unsigned_abs p.1 ≤ 2 ^ 102) w.pairs × (unsigned_abs w.constant ≤ 2 ^ 102)) }
+    ensures pairs { IfOk result (λ w. All (λ p. unsigned_abs p.1 ≤ 2 ^ 102) w.pairs) }
+    ensures constant { IfOk result (λ w. unsigned_abs w.constant ≤ 2 ^ 102) }
 {
     let narrow = row(alloc, pairs, constant)?;
     Ok(widen(alloc, &narrow)?)
@@ -38,31 +39,30 @@ fn holds(alloc: Global, constant: i64, d: u32, parts: &[(u32, u32)]) -> Result<b
     Ok(step_holds(&hyps, &goal, &step(alloc, d, parts)?))
 }
 
-#[test]
-fn steps_hold_by_their_sums(rt: HostRuntime) -> Result<(), Fail> {
-    // 2x0 - 1 gives x0 - 1 by the divisor 2 alone; x0 - x1 and x1 - 3 give x0 - 3.
-    assert!(rt; holds(rt.alloc(), -1, 2, &[(0, 1)])?);
-    assert!(rt; !holds(rt.alloc(), -2, 2, &[(0, 1)])?);
-    assert!(rt; !holds(rt.alloc(), -1, 1, &[(0, 1)])?);
-    assert!(rt; holds(rt.alloc(), -3, 1, &[(1, 1), (2, 1)])?);
-    Ok(())
-}
+/// The constant of the goal `x0 + constant`, a step's divisor and its parts, and whether it holds.
+const STEPS: [(i64, u32, &[(u32, u32)], bool); 12] = [
+    // 2 * x0 - 1 gives x0 - 1 by the divisor 2 alone; x0 - x1 and x1 - 3 give x0 - 3.
+    (-1, 2, &[(0, 1)], true),
+    (-2, 2, &[(0, 1)], false),
+    (-1, 1, &[(0, 1)], false),
+    (-3, 1, &[(1, 1), (2, 1)], true),
+    // 65535 * x0 - 65534 * 3 - 3 + 65534 of the largest divisor.
+    (-3, 65535, &[(1, 65535), (2, 65535)], true),
+    // divisors, hypotheses and multipliers out of range, and hypotheses that do not ascend
+    (-3, 0, &[(1, 1), (2, 1)], false),
+    (-3, 65536, &[(1, 65536), (2, 65536)], false),
+    (-3, 1, &[(2, 1), (1, 1)], false),
+    (-3, 1, &[(1, 1), (1, 1)], false),
+    (-3, 1, &[(1, 1), (3, 1)], false),
+    (-3, 1, &[(1, 1), (2, 0)], false),
+    (-3, 1, &[(1, 1), (2, 2147483648)], false),
+];
 
 #[test]
-fn steps_keep_their_ranges(rt: HostRuntime) -> Result<(), Fail> {
-    // 65535 * x0 - 65534 * 3 - 3 + 65534 of the largest divisor.
-    assert!(rt; holds(rt.alloc(), -3, 65535, &[(1, 65535), (2, 65535)])?);
-    let refused = [
-        (0, [(1, 1), (2, 1)]),
-        (65536, [(1, 65536), (2, 65536)]),
-        (1, [(2, 1), (1, 1)]),
-        (1, [(1, 1), (1, 1)]),
-        (1, [(1, 1), (3, 1)]),
-        (1, [(1, 1), (2, 0)]),
-        (1, [(1, 1), (2, 2147483648)]),
-    ];
-    for (d, parts) in &refused {
-        assert!(rt; !holds(rt.alloc(), -3, *d, parts)?);
+fn steps_hold_by_their_sums_and_ranges(rt: HostRuntime) -> Result<(), Fail> {
+    for (constant, d, parts, expected) in &STEPS {
+        let found = holds(rt.alloc(), *constant, *d, parts)?;
+        assert_eq!(rt; found, *expected, "{constant} {d} {parts:?}");
     }
     Ok(())
 }
@@ -79,9 +79,13 @@ fn proves(alloc: Global, hyps: &[Row], constant: i64) -> Result<bool, Fail> {
 #[test]
 fn short_steps_are_found(rt: HostRuntime) -> Result<(), Fail> {
     let hyps = hypotheses(rt.alloc())?;
-    assert!(rt; proves(rt.alloc(), &hyps, -3)?);
-    assert!(rt; proves(rt.alloc(), &hyps, -2)?);
-    assert!(rt; !proves(rt.alloc(), &hyps, -4)?);
+    for (constant, expected) in [(-3, true), (-2, true), (-4, false)] {
+        assert_eq!(rt;
+            proves(rt.alloc(), &hyps, constant)?,
+            expected,
+            "{constant}"
+        );
+    }
     assert!(rt; !proves(rt.alloc(), &[], 0)?);
     Ok(())
 }
@@ -121,8 +125,9 @@ fn many(alloc: Global, count: u32) -> Result<Vec<Row>, Fail> {
 #[test]
 fn at_most_4096_hypotheses(rt: HostRuntime) -> Result<(), Fail> {
     // The least of the constants, 1, is the one that completes the last row.
-    assert!(rt; proves(rt.alloc(), &many(rt.alloc(), 4096)?, -6)?);
-    assert!(rt; !proves(rt.alloc(), &many(rt.alloc(), 4096)?, -7)?);
-    assert!(rt; !proves(rt.alloc(), &many(rt.alloc(), 4097)?, -6)?);
+    for (count, constant, expected) in [(4096, -6, true), (4096, -7, false), (4097, -6, false)] {
+        let found = proves(rt.alloc(), &many(rt.alloc(), count)?, constant)?;
+        assert_eq!(rt; found, expected, "{count} {constant}");
+    }
     Ok(())
 }
