@@ -10,6 +10,3 @@ mod shown;
 mod walk;
 
 pub use check::check_narrow;
-
-#[cfg(test)]
-mod tests;

@@ -19,6 +19,3 @@ mod world;
 pub use begin::StartError;
 pub use cv_meaning::{Arg, RunEnd};
 pub use machine::{Machine, Turn};
-
-#[cfg(test)]
-mod tests;

@@ -17,6 +17,3 @@ pub use ends::{Arg, RunEnd};
 pub use laws::{bound_law, end_law, step_by_step_law, worked_runs};
 pub use memory::{Body, NamedValue, Object, Permit, Ptr, Value, View, World};
 pub use objects::Mem;
-
-#[cfg(test)]
-mod tests;

@@ -25,6 +25,3 @@ pub use fixpoint::least;
 pub use holders::first_holder;
 pub use place::Place;
 pub use places::cell_places;
-
-#[cfg(test)]
-mod tests;

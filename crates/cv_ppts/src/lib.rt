@@ -26,6 +26,3 @@ pub use codes::{Case, CaseError, Targets};
 pub use entities::Class;
 pub use fixpoint::targets;
 pub use listing::cases;
-
-#[cfg(test)]
-mod tests;
