@@ -5,8 +5,6 @@ mod answer;
 mod app;
 mod args;
 mod check;
-#[cfg(test)]
-mod core_tests;
 mod ended;
 mod fault;
 mod halt;
@@ -17,11 +15,7 @@ mod program;
 mod reads;
 mod request;
 mod run;
-#[cfg(test)]
-mod run_tests;
 mod served;
-#[cfg(test)]
-mod tests;
 mod unbuilt;
 
 pub use app::{cssv, serve_words};
