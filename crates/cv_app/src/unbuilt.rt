@@ -8,7 +8,7 @@ ghost use Rattle.cv_app.specs.Built.{first_unbuilt, is_move as move_of, is_retur
 
 use cv_core::{
     AnyOperand, Contract, Form, Local, LocalBody, Operand, Proc, ProcBody, Program, ResultKind,
-    Stmt, VarKind,
+    Stmt, VarKind, is_main,
 };
 
 /// The greatest number of statements of a straight-line program.
@@ -138,12 +138,6 @@ fn gives_int(answer: ResultKind) -> bool
     ensures { result ≡ int_given answer }
 {
     matches!(answer, ResultKind::Int)
-}
-
-fn is_main(name: &[u8]) -> bool
-    ensures { result ≡ main_name name.now }
-{
-    name == b"main".as_slice()
 }
 
 /// Whether the heading is `int main()`.

@@ -13,7 +13,7 @@ use crate::rows::hypotheses;
 use crate::shown::goals_shown;
 use crate::walk::{first_rows, statements_shown, statements_sized};
 use cv_cert::{Block, Cert, CertCase, CertError, read_cert};
-use cv_core::{List, Program, Stmt};
+use cv_core::{List, Program, Stmt, is_main};
 use cv_farkas::Step;
 use cv_num::Row;
 use std::alloc::{AllocError, Global};
@@ -125,13 +125,6 @@ fn is_formed(stmts: &[Stmt], case: &CertCase) -> bool
     let rows = case.rows.as_slice();
     let named = all_name_pointer(rows);
     rows.len() == stmts.len() && named && case.picks.is_empty()
-}
-
-/// Whether the block is of `main`.
-fn is_main(name: &[u8]) -> bool
-    ensures { IsTrue result ↔ (name.now ≡ codes "main") }
-{
-    name == b"main".as_slice()
 }
 
 /// Whether the block is of `main` and has one case, which is valid.

@@ -1,5 +1,6 @@
 -- The kinds that the statements of a body ask of what they name.
-use Rattle.std.specs.Prelude.{ℕ, Bool, true, false, ◌&&◌, ◌||◌, ◌==◌, int_le, pos, List, [], ◌∷◌, length, Option, Some, None, ℤ}
+use Rattle.std.specs.Prelude.{ℕ, Bool, true, false, ◌&&◌, ◌||◌, ◌==◌, int_le, List, [], ◌∷◌, length, Option, Some, None, ℤ}
+use Rattle.cv_core.specs.Chars.{greatest_char, least_char}
 use Rattle.cv_core.specs.Meant.{built_in, built_in_answer, built_in_kinds, called, kinds_of, meant_in}
 use Rattle.cv_core.specs.Names.{Name}
 use Rattle.cv_core.specs.declared.program.Program.{Program}
@@ -17,7 +18,7 @@ use Rattle.cv_core.specs.declared.program.ResultKind.{ResultKind}
 use Rattle.cv_core.specs.declared.program.ResultKind.TheVariants as gives
 use Rattle.cv_core.specs.declared.program.VarKind.{VarKind}
 use Rattle.cv_core.specs.declared.program.VarKind.TheVariants as kind
-use Rattle.cv_core.specs.declared.shape.names.BuiltIn.{BuiltIn}
+use Rattle.cv_core.specs.declared.names.BuiltIn.{BuiltIn}
 use Rattle.cv_core.specs.declared.shape.names.Meant.{Meant}
 use Rattle.cv_core.specs.declared.shape.names.Meant.TheVariants as meant
 
@@ -86,10 +87,10 @@ abbrev pub is_ptr_operand : Program → Proc → Operand → Bool
 is_ptr_operand P f (operand.Var x) = means_ptr (meant_in P f x)
 is_ptr_operand P f (operand.Number z) = false
 
--- a char variable, or a number 0..255
+-- a char variable, or a number that it can hold
 abbrev pub is_char_operand : Program → Proc → Operand → Bool
 is_char_operand P f (operand.Var x) = means_char (meant_in P f x)
-is_char_operand P f (operand.Number z) = int_le (pos 0) z && int_le z (pos 255)
+is_char_operand P f (operand.Number z) = int_le (least_char P) z && int_le z (greatest_char P)
 
 abbrev pub is_pptr_operand : Program → Proc → Operand → Bool
 is_pptr_operand P f (operand.Var x) = means_pptr (meant_in P f x)

@@ -21,8 +21,8 @@ use Rattle.cv_core.specs.declared.program.VarKind.{VarKind}
 use Rattle.cv_core.specs.declared.program.VarKind.TheVariants as kind
 use Rattle.cv_core.specs.declared.shape.names.Meant.{Meant}
 use Rattle.cv_core.specs.declared.shape.names.Meant.TheVariants as meant
-use Rattle.cv_core.specs.declared.shape.names.BuiltIn.{BuiltIn}
-use Rattle.cv_core.specs.declared.shape.names.BuiltIn.TheVariants as built
+use Rattle.cv_core.specs.declared.names.BuiltIn.{BuiltIn}
+use Rattle.cv_core.specs.declared.names.BuiltIn.TheVariants as built
 
 -- ---- variables and objects
 

@@ -23,7 +23,7 @@ use Rattle.cv_core.specs.declared.program.Term.{Term, Row_of-Term, end_of-Term, 
 use Rattle.cv_core.specs.declared.program.Term.TheVariants as term
 use Rattle.cv_core.specs.declared.program.PtrTerm.{PtrTerm, Row_of-PtrTerm, end_of-PtrTerm, more_of-PtrTerm}
 use Rattle.cv_core.specs.declared.program.PtrTerm.TheVariants as pointer
-use Rattle.cv_core.specs.declared.shape.names.BuiltIn.{BuiltIn}
+use Rattle.cv_core.specs.declared.names.BuiltIn.{BuiltIn}
 use Rattle.cv_core.specs.declared.shape.named.NameFault.{NameFault}
 use Rattle.cv_core.specs.declared.shape.named.NameFault.TheVariants as fault
 

@@ -2,9 +2,10 @@
 ghost use Rattle.std.specs.Prelude.{◌≡◌, ◌+◌, length, None, OnOk, IfErr};
 ghost use Rattle.std.specs.List.{list_any};
 ghost use Rattle.cv_core.specs.Limits.{IsFirstLimit, first_limit as first_limit_of, has_many_atoms as many_atoms, has_many_parts as many_parts, is_passed as passed, most as most_of, part_count as parts_of, passes as passes_of, variable_count as variables_of};
-ghost use Rattle.cv_core.specs.Names.{locals_of as locals_in, stmts_of as stmts_in};
+ghost use Rattle.cv_core.specs.Names.{stmts_of as stmts_in};
 
 use crate::faults::{LimitFault, LimitName};
+use crate::names::{locals_of, stmts_of};
 use crate::program::{Atom, Contract, Literal, Proc, Program};
 use cv_list::List;
 
@@ -71,31 +72,11 @@ fn has_long_literal(literals: &[Literal]) -> bool
         .any(|l| passes(LimitName::Literal, l.bytes.len()))
 }
 
-/// How many locals a procedure has; none without a body.
-fn local_count(f: &Proc) -> usize
-    ensures { result ≡ length (locals_in f.now.body) }
-{
-    match &f.body {
-        None => 0,
-        Some(body) => body.locals.len(),
-    }
-}
-
-/// How many statements a procedure has; none without a body.
-fn statement_count(f: &Proc) -> usize
-    ensures { result ≡ length (stmts_in f.now.body) }
-{
-    match &f.body {
-        None => 0,
-        Some(body) => body.stmts.len(),
-    }
-}
-
 /// Whether the formals and locals of a procedure are together too many.
 fn has_many_locals(f: &Proc) -> bool
     ensures { result ≡ passes_of LimitName.Locals (variables_of f.now) }
 {
-    passes_together(LimitName::Locals, f.formals.len(), local_count(f))
+    passes_together(LimitName::Locals, f.formals.len(), locals_of(f).len())
 }
 
 /// Whether an atom has too many parts.
@@ -174,7 +155,7 @@ fn some_proc_has_many_statements(procs: &[Proc]) -> bool
 {
     procs
         .iter()
-        .any(|f| passes(LimitName::Statements, statement_count(f)))
+        .any(|f| passes(LimitName::Statements, stmts_of(f).len()))
 }
 
 fn some_proc_has_many_atoms(procs: &[Proc]) -> bool

@@ -14,10 +14,10 @@ ghost use Rattle.cv_interp.specs.Takes.{HasSlot};
 ghost use Rattle.cv_meaning.specs.declared.memory.Body.TheVariants.{Buffer};
 
 use crate::items::item_objects;
-use crate::slots::{as_kind, locals_of, set_var};
+use crate::slots::{as_kind, set_var};
 use crate::store::{Room, Slot, Taken};
 use crate::world::{fresh, fresh_bytes, spent};
-use cv_core::{Bytes, Formal, List, Local, LocalBody, Proc, Program, VarKind};
+use cv_core::{Bytes, Formal, List, Local, LocalBody, Proc, Program, VarKind, locals_of};
 use cv_meaning::{Body, Mem, NamedValue, Part, Permit, Ptr, Value, View, World, holds};
 use std::alloc::{AllocError, Global};
 

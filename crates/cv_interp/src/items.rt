@@ -8,7 +8,7 @@ ghost use Rattle.cv_meaning.specs.Look.{look};
 ghost use Rattle.cv_meaning.specs.Seen.{scene};
 
 use crate::cells::content;
-use cv_core::{GlobalBody, GlobalDecl, Item, List, PtrTerm};
+use cv_core::{GlobalBody, Item, List, PtrTerm, global_place};
 use cv_meaning::{Mem, NamedValue, Ptr, Value, View};
 use std::alloc::{AllocError, Global};
 
@@ -25,12 +25,6 @@ fn looked(vars: &[NamedValue], x: &[u8]) -> Value
             }
         }
     }
-}
-
-fn global_place(globals: &[GlobalDecl], x: &[u8]) -> Option<usize>
-    ensures { result ≡ place_of (λ g. g.name) x.now globals.now }
-{
-    globals.iter().position(|g| g.name.as_slice() == x)
 }
 
 /// The value of the global of a number.

@@ -7,9 +7,8 @@ ghost use Rattle.cv_meaning.specs.Memory.{kill_from as killed_from};
 ghost use Rattle.cv_interp.specs.Seen.{frame, state};
 ghost use Rattle.cv_interp.specs.Takes.{IsKept};
 
-use crate::objects::objects_of;
 use crate::store::{Activation, Store};
-use cv_core::{ErrKind, Program};
+use cv_core::{ErrKind, Program, object_count};
 use cv_meaning::{Mem, Part, Ptr, Value, View, holds};
 
 /// Whether it is a local object of the procedure that runs.
@@ -17,7 +16,7 @@ use cv_meaning::{Mem, Part, Ptr, Value, View, holds};
 fn is_own(a: &Activation, object: u64) -> bool
     ensures { result ≡ is_own_in (frame a.now) object }
 {
-    a.permit.first <= object && object - a.permit.first < objects_of(a.proc) as u64
+    a.permit.first <= object && object - a.permit.first < object_count(a.proc) as u64
 }
 
 /// Whether a value may be returned: Wild, Dead.
@@ -86,7 +85,7 @@ pub(crate) fn leave(
     ensures kept { IsKept s.old s.new }
 {
     returnable(a, &s.room.memory, answer)?;
-    let count = objects_of(a.proc);
+    let count = object_count(a.proc);
     kill_from(&mut s.room.memory, s.room.made, a.permit.first, count);
     if may_leave(p, a, &s.room.memory, answer) {
         Ok(())

@@ -3,11 +3,14 @@ ghost use Rattle.std.specs.Prelude.{◌≡◌, ◌+◌, ◌++◌, ◌<◌, ◌�
 ghost use Rattle.cv_core.specs.Names.{place_of};
 ghost use Rattle.cv_interp.specs.Plans.{any_slot as any_slot_of, any_slot_if as any_slot_if_of, home_of as home_in, line_in, line_of as line_as, nowhere as nowhere_of, operand_slot as operand_slot_of, plain as plain_of, plan_of as plan_as, plans_from as plans_behind, plans_of as plans_as, slot_at as slot_at_of, slot_if as slot_if_of};
 
-use crate::objects::{home_of, objects_of};
-use crate::sites::{local_site, mallocs_in, plus, stmts_of};
-use crate::slots::{locals_of, slot_at};
+use crate::objects::home_of;
+use crate::sites::{local_site, plus};
+use crate::slots::slot_at;
 use crate::store::{Home, Line, Plan, Slot};
-use cv_core::{AnyOperand, Bytes, Form, List, Local, Operand, Proc, Program, Stmt, VarKind};
+use cv_core::{
+    AnyOperand, Bytes, Form, List, Local, Operand, Proc, Program, Stmt, VarKind, locals_of,
+    malloc_count, object_count, stmts_of,
+};
 use std::alloc::{AllocError, Global};
 
 /// The slot where no variable is named.
@@ -317,8 +320,8 @@ fn put_plans(
         [] => Ok(()),
         [f, rest @ ..] => {
             plans.push(plan_of(alloc, p, f, site, mallocs)?)?;
-            let next = past(site, objects_of(f))?;
-            let later = past(mallocs, mallocs_in(stmts_of(f)))?;
+            let next = past(site, object_count(f))?;
+            let later = past(mallocs, malloc_count(stmts_of(f)))?;
             put_plans(alloc, p, rest, next, later, plans)
         }
     }

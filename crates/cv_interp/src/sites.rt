@@ -3,9 +3,8 @@ ghost use Rattle.std.specs.Prelude.{◌≡◌, ◌+◌, ◌≤◌, IfSome, lengt
 ghost use Rattle.cv_core.specs.Names.{is_malloc as is_malloc_in, local_site as local_site_of, malloc_site as malloc_site_of, mallocs_in as mallocs_of, objects_of as objects_in, stmts_at, stmts_of as stmts_in};
 ghost use Rattle.cv_interp.specs.Plans.{first_malloc};
 
-use crate::objects::objects_of;
 use crate::store::Activation;
-use cv_core::{Form, Proc, Program, Stmt};
+use cv_core::{Proc, Program, malloc_count, object_count, stmts_of};
 
 /// The sum of two counts.
 pub(crate) fn plus(a: u32, b: usize) -> Option<u32>
@@ -14,16 +13,6 @@ pub(crate) fn plus(a: u32, b: usize) -> Option<u32>
     match u32::try_from(b) {
         Err(_) => None,
         Ok(b) => a.checked_add(b),
-    }
-}
-
-/// The statements of a procedure; none without a body.
-pub(crate) fn stmts_of(f: &Proc) -> &[Stmt]
-    ensures { result.now ≡ stmts_in f.now.body }
-{
-    match &f.body {
-        None => &[],
-        Some(body) => body.stmts.as_slice(),
     }
 }
 
@@ -38,7 +27,7 @@ fn past_objects(procs: &[Proc], count: usize, start: u32) -> Option<u32>
             if count == 0 {
                 Some(start)
             } else {
-                past_objects(rest, count - 1, plus(start, objects_of(first))?)
+                past_objects(rest, count - 1, plus(start, object_count(first))?)
             }
         }
     }
@@ -52,34 +41,6 @@ pub(crate) fn local_site(p: &Program, number: usize) -> Option<u32>
     past_objects(p.procs.as_slice(), number, start)
 }
 
-fn is_malloc(form: &Form) -> bool
-    ensures { result ≡ is_malloc_in form.now }
-{
-    match form {
-        Form::Call { f, .. } => f.as_slice() == b"malloc".as_slice(),
-        _ => false,
-    }
-}
-
-#[tactic(auto, using(crate::proofs::Sums::count_yes, crate::proofs::Sums::count_no))]
-/// How many of the statements are calls of malloc.
-pub(crate) fn mallocs_in(stmts: &[Stmt]) -> usize
-    ensures count { result ≡ mallocs_of stmts.now }
-    ensures within { result ≤ length stmts.now }
-{
-    match stmts {
-        [] => 0,
-        [first, rest @ ..] => {
-            let later = mallocs_in(rest);
-            if is_malloc(&first.form) {
-                later + 1
-            } else {
-                later
-            }
-        }
-    }
-}
-
 /// The site of the call of malloc at statement `k` of the procedure that runs, where `first` is that of its first one.
 #[tactic(auto, using(crate::proofs::Planned::malloc_is))]
 pub(crate) fn malloc_site(_p: &Program, a: &Activation, first: u32, k: usize) -> Option<u32>
@@ -89,5 +50,5 @@ pub(crate) fn malloc_site(_p: &Program, a: &Activation, first: u32, k: usize) ->
     ensures { IfSome result (λ s. s ≡ malloc_site_of _p.now a.now.number k) }
 {
     let stmts = stmts_of(a.proc);
-    plus(first, mallocs_in(&stmts[..k]))
+    plus(first, malloc_count(&stmts[..k]))
 }

@@ -7,18 +7,11 @@ ghost use Rattle.cv_interp.specs.Plans.{any_slot as any_slot_of, operand_slot as
 ghost use Rattle.cv_interp.specs.Slots.{env_of, held_as, is_variable as is_variable_in, slot_in, slot_names, slot_of as slot_of_name, variables_of};
 
 use crate::store::Slot;
-use cv_core::{AnyOperand, Formal, Local, LocalBody, Operand, Proc, Program, VarKind};
+use cv_core::{
+    AnyOperand, Formal, Local, LocalBody, Operand, Proc, Program, VarKind, char_of, kind_of,
+    locals_of,
+};
 use cv_meaning::{Ptr, Value};
-
-/// The locals of a procedure; none without a body.
-pub(crate) fn locals_of(f: &Proc) -> &[Local]
-    ensures { result.now ≡ locals_in f.now.body }
-{
-    match &f.body {
-        None => &[],
-        Some(body) => body.locals.as_slice(),
-    }
-}
 
 fn slot_among_formals(formals: &[Formal], x: &[u8]) -> Option<usize>
     ensures value { result ≡ slot_in (map (λ f. f.name) formals.now) x.now }
@@ -167,66 +160,6 @@ pub(crate) fn pointer_of(f: &Proc, vars: &[Value], x: &[u8], at: Slot) -> Ptr
     ensures { result ≡ pointer_in (env_of f.now vars.now x.now) }
 {
     pointer(value_of(f, vars, x, at))
-}
-
-/// A number modulo 256.
-pub(crate) fn low_byte(z: i32) -> u8
-    ensures { result ≡ low_byte_of z }
-{
-    z.rem_euclid(256) as u8
-}
-
-/// The char to which a number is wrapped.
-fn char_of(_p: &Program, z: i32) -> i32
-    ensures { result ≡ char_in _p.now z }
-{
-    i32::from(low_byte(z))
-}
-
-fn kind_of_local(body: LocalBody) -> VarKind
-    ensures { result ≡ kind_of_body body }
-{
-    match body {
-        LocalBody::Var(kind) => kind,
-        _ => VarKind::Int,
-    }
-}
-
-fn kind_in_locals(locals: &[Local], x: &[u8]) -> VarKind
-    ensures { result ≡ kind_among_locals x.now locals.now }
-{
-    match locals {
-        [] => VarKind::Int,
-        [first, rest @ ..] => {
-            if first.name.as_slice() == x {
-                kind_of_local(first.body)
-            } else {
-                kind_in_locals(rest, x)
-            }
-        }
-    }
-}
-
-fn kind_among(formals: &[Formal], locals: &[Local], x: &[u8]) -> VarKind
-    ensures { result ≡ kind_in x.now formals.now locals.now }
-{
-    match formals {
-        [] => kind_in_locals(locals, x),
-        [first, rest @ ..] => {
-            if first.name.as_slice() == x {
-                first.kind
-            } else {
-                kind_among(rest, locals, x)
-            }
-        }
-    }
-}
-
-/// The kind of a variable of the procedure.
-fn kind_of(f: &Proc, x: &[u8]) -> VarKind
-    ensures { result ≡ kind_of_name f.now x.now }
-{
-    kind_among(f.formals.as_slice(), locals_of(f), x)
 }
 
 /// A number as a variable of a kind holds it.

@@ -12,12 +12,11 @@ ghost use Rattle.cv_interp.specs.Takes.{HasSlot, IsKept, IsNearPtr, IsReady, IsS
 use crate::cells::{diff, get, put};
 use crate::objects::object_at;
 use crate::slots::{
-    any_value, assign, low_byte, number, number_of, operand_value, pointer, pointer_of, set_var,
-    value_of,
+    any_value, assign, number, number_of, operand_value, pointer, pointer_of, set_var, value_of,
 };
 use crate::store::{Activation, Home, Line, Slot, Store};
 use crate::world::{fresh, spent};
-use cv_core::{AnyOperand, Bytes, ErrKind, Form, Operand, Proc, Program, Rel};
+use cv_core::{AnyOperand, Bytes, ErrKind, Form, Operand, Proc, Program, Rel, low_byte};
 use cv_meaning::{Ptr, Value, load, shift, store};
 
 /// Assigns a number.

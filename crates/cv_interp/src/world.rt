@@ -4,9 +4,8 @@ ghost use Rattle.cv_meaning.specs.Call.{answer_in as answer_within, byte_read as
 ghost use Rattle.cv_meaning.specs.State.{fresh as fresh_of, fresh_bytes as fresh_bytes_of};
 ghost use Rattle.cv_interp.specs.Seen.{left};
 
-use crate::slots::low_byte;
 use crate::store::Taken;
-use cv_core::List;
+use cv_core::{List, low_byte};
 use cv_meaning::World;
 use std::alloc::{AllocError, Global};
 

@@ -2,11 +2,11 @@
 use Rattle.std.proofs.Common.{◌≡◌, refl, sym, ap, ◌∙◌, ℕ, zero, suc, ◌+◌, ◌-◌, ◌<◌, ◌≤◌, Bool, true, false, List, [], ◌∷◌, ◌++◌, length, map, drop, Option, Some, None, slice_get, arith, if◌then◌else◌}
 use Rattle.std.specs.List.{filter, flat_map}
 use Rattle.std.proofs.lemmas.List.{map-append}
-use Rattle.cv_core.specs.Names.{objects_of}
+use Rattle.cv_core.specs.Names.{is_pointer_cell, is_pointer_global, objects_of}
 use Rattle.cv_core.specs.declared.program.Proc.{Proc}
 use Rattle.cv_core.specs.declared.program.Program.{Program}
 use Rattle.cv_points.specs.Cursors.{IsCursor, cells_behind}
-use Rattle.cv_points.specs.Holders.{cell_number, cells, first_holder, global_cells, is_pointer_cell, is_pointer_global, object_cells}
+use Rattle.cv_points.specs.Holders.{cell_number, cells, first_holder, global_cells, object_cells}
 use Rattle.cv_points.specs.Walks.{found, then_walk, walk, word}
 use Rattle.cv_points.specs.declared.cursor.Cursor.{Cursor}
 use Rattle.cv_points.specs.declared.walk.Walk.TheVariants as walked

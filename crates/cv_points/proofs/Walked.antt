@@ -6,11 +6,11 @@ use Rattle.std.proofs.lemmas.Grind.{common_steps}
 use Rattle.std.proofs.lemmas.List.{map-append}
 use Rattle.std.proofs.lemmas.List.Sums.{sum_by-append, sum_by-cons}
 use Rattle.std.proofs.Math.Seq.{take-length}
-use Rattle.cv_core.specs.Names.{objects_of}
+use Rattle.cv_core.specs.Names.{is_pointer_cell, objects_of}
 use Rattle.cv_core.specs.declared.program.Local.{Local}
 use Rattle.cv_core.specs.declared.program.Proc.{Proc}
 use Rattle.cv_core.specs.declared.program.Program.{Program}
-use Rattle.cv_points.specs.Holders.{cell_number, cells, global_cells, object_cells, is_pointer_cell}
+use Rattle.cv_points.specs.Holders.{cell_number, cells, global_cells, object_cells}
 use Rattle.cv_points.specs.Walks.{found, then_walk, walk}
 use Rattle.cv_points.specs.declared.walk.Walk.{Walk}
 use Rattle.cv_points.specs.declared.walk.Walk.TheVariants as walked

@@ -1,9 +1,9 @@
 -- Where a walk over the objects of procedures can go on: it finds from there what it finds from the start.
 use Rattle.std.specs.Prelude.{List, Bool, length, map, drop, suc, ℕ, ◌-◌, ◌≡◌, ◌≤◌}
 use Rattle.std.specs.List.{flat_map}
-use Rattle.cv_core.specs.Names.{objects_of}
+use Rattle.cv_core.specs.Names.{is_pointer_cell, objects_of}
 use Rattle.cv_core.specs.declared.program.Program.{Program}
-use Rattle.cv_points.specs.Holders.{cell_number, cells, first_holder, is_pointer_cell}
+use Rattle.cv_points.specs.Holders.{cell_number, cells, first_holder}
 use Rattle.cv_points.specs.Walks.{found, walk, word}
 use Rattle.cv_points.specs.declared.cursor.Cursor.{Cursor}
 use Rattle.cv_points.specs.declared.cursor.Step.{Step}

@@ -2,7 +2,7 @@
 use Rattle.std.specs.Prelude.{Bool, List, None, Option, Some, false, if◌then◌else◌, length, map, sum, take, true, zero, suc, ℕ, ◌+◌, ◌++◌}
 use Rattle.std.specs.List.{count_by, filter, flat_map, slice_index_or}
 use Rattle.std.specs.Option.{option_map}
-use Rattle.cv_core.specs.Names.{Name, local_site, locals_of, objects_of, place_of}
+use Rattle.cv_core.specs.Names.{Name, is_pointer_cell, is_pointer_global, is_pointer_kind, is_pointer_local, local_site, locals_of, objects_of, place_of}
 use Rattle.cv_core.specs.declared.program.Formal.{Formal}
 use Rattle.cv_core.specs.declared.program.GlobalBody.{GlobalBody}
 use Rattle.cv_core.specs.declared.program.Local.{Local}
@@ -18,15 +18,6 @@ use Rattle.cv_core.specs.declared.program.VarKind.TheVariants as kind
 use Rattle.cv_core.specs.declared.program.LocalBody.TheVariants as local
 
 -- ---- pointer variables
-
-abbrev pub is_pointer_kind : VarKind → Bool
-is_pointer_kind kind.Int = false
-is_pointer_kind kind.Char = false
-is_pointer_kind k = true
-
-abbrev pub is_pointer_local : LocalBody → Bool
-is_pointer_local (local.Var k) = is_pointer_kind k
-is_pointer_local b = false
 
 abbrev pub pointer_formals : Proc → List Formal
 pointer_formals f = filter (λ x. is_pointer_kind x.kind) f.formals
@@ -78,14 +69,6 @@ abbrev pub result_place : ℕ → Proc → Option ℕ
 result_place first f = place_from first (result_number f)
 
 -- ---- pointer cells
-
-abbrev pub is_pointer_global : GlobalBody → Bool
-is_pointer_global global.Pointer = true
-is_pointer_global b = false
-
-abbrev pub is_pointer_cell : LocalBody → Bool
-is_pointer_cell local.PointerCell = true
-is_pointer_cell b = false
 
 abbrev pub global_cells : Program → List Bool
 global_cells P = map (λ g. is_pointer_global g.body) P.globals

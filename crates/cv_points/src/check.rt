@@ -4,10 +4,10 @@ ghost use Rattle.cv_core.specs.Names.{stmts_of as stmts_in};
 ghost use Rattle.cv_points.specs.Closed.{HoldsAt, HoldsIn, IsClosed, IsFirstOpenAt, capped as capped_of};
 ghost use Rattle.cv_points.specs.Walks.{AreBases, AreStarts};
 
-use crate::holders::{Bases, bases_of, starts, stmts_of};
+use crate::holders::{Bases, bases_of, starts};
 use crate::place::Place;
 use crate::statements::missing_in_statement;
-use cv_core::{List, Proc, Program, PtsTable};
+use cv_core::{List, Proc, Program, PtsTable, stmts_of};
 
 /// Whether the rules of a statement hold.
 fn holds_in(

@@ -9,10 +9,10 @@ ghost use Rattle.cv_points.specs.Holders.{first_holder as first_holder_of};
 ghost use Rattle.cv_points.specs.Walks.{AreBases, AreStarts, callee_in, word_rule};
 ghost use Rattle.cv_points.specs.declared.rules.Rule.{Rule as RuleValue};
 
-use crate::holders::{Bases, bases_of, proc_count, starts, stmts_of};
+use crate::holders::{Bases, bases_of, proc_count, starts};
 use crate::rules::{Rule, argument_count, callee_of, form_rule, formal_rule, global_rule};
 use crate::statements::{global_count, is_start, statement_at};
-use cv_core::{Form, Proc, Program};
+use cv_core::{Form, Proc, Program, stmts_of};
 use std::alloc::{AllocError, Global};
 
 /// Whether a word holds each number of a rule.

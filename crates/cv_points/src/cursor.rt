@@ -1,14 +1,15 @@
 //! The places of pointer cells, looked for one after the other: a site behind the one before is walked to from there.
+ghost use Rattle.cv_core.specs.Names.{is_pointer_global as pointer_global};
 ghost use Rattle.std.specs.Prelude.{◌≡◌, ◌+◌, ◌≤◌, Some, length, slice_get};
 ghost use Rattle.std.specs.List.{filter};
 ghost use Rattle.std.specs.Option.{option_map};
 ghost use Rattle.cv_points.specs.Cursors.{IsCursor, IsStep};
-ghost use Rattle.cv_points.specs.Holders.{cell_number as number_of_cell, cell_place as place_of_cell, cells, is_pointer_global as pointer_global};
+ghost use Rattle.cv_points.specs.Holders.{cell_number as number_of_cell, cell_place as place_of_cell, cells};
 ghost use Rattle.cv_points.specs.Walks.{word};
 
 use crate::holders::{first_holder, proc_count};
-use crate::walk::{Walk, cell_number, is_pointer_global, walk_proc};
-use cv_core::{GlobalDecl, Proc, Program};
+use crate::walk::{Walk, cell_number, walk_proc};
+use cv_core::{GlobalDecl, Proc, Program, is_pointer_global};
 
 /// Where a walk over the objects of procedures can go on.
 #[derive(Clone, Copy, PartialEq, Eq, Debug)]
@@ -36,10 +37,7 @@ pub(crate) enum Step {
 fn pointer_globals(globals: &[GlobalDecl]) -> usize
     ensures { result ≡ length (filter (λ g. pointer_global g.body) globals.now) }
 {
-    globals
-        .iter()
-        .filter(|g| is_pointer_global(&g.body))
-        .count()
+    globals.iter().filter(|g| is_pointer_global(g.body)).count()
 }
 
 fn before_objects(p: &Program) -> u128

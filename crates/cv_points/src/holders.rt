@@ -1,34 +1,18 @@
 //! The places of the sets of a family, and the sites of objects. Sums stop at the greatest number of a word, which
 //! no set and no site can have.
-ghost use Rattle.std.specs.Prelude.{◌≡◌, ◌+◌, ◌<◌, ◌≤◌, Some, bytes_eq, codes, length, map, slice_get, sum, take, ℕ};
+ghost use Rattle.std.specs.Prelude.{◌≡◌, ◌+◌, ◌<◌, ◌≤◌, Some, length, map, slice_get, sum, take, ℕ};
 ghost use Rattle.std.specs.List.{count_by, filter};
 ghost use Rattle.std.specs.Option.{option_map};
-ghost use Rattle.cv_core.specs.Names.{is_malloc as malloc_form, is_object as object, local_site as local_site_of, malloc_site as malloc_site_of, mallocs_in, objects_of, place_of, stmts_of as stmts_in};
+ghost use Rattle.cv_core.specs.Names.{is_pointer_kind as pointer_kind, is_pointer_local as pointer_local, local_site as local_site_of, malloc_site as malloc_site_of, mallocs_in, objects_of, place_of, stmts_of as stmts_in};
 ghost use Rattle.cv_core.specs.declared.program.Program.{Program as ProgramValue};
-ghost use Rattle.cv_points.specs.Holders.{cell_place as place_of_cell, first_holder as first_holder_of, gives_pointer, holder_count as count_of, is_pointer_kind as pointer_kind, is_pointer_local as pointer_local, place_from, pointer_count, result_number as number_of_result, site_of as site_of_name, variable_number as number_of};
+ghost use Rattle.cv_points.specs.Holders.{cell_place as place_of_cell, first_holder as first_holder_of, gives_pointer, holder_count as count_of, place_from, pointer_count, result_number as number_of_result, site_of as site_of_name, variable_number as number_of};
 ghost use Rattle.cv_points.specs.Walks.{AreBases, AreStarts, malloc_base, word};
 
-use crate::walk::{cell_number, is_object, locals_of};
+use crate::walk::cell_number;
 use cv_core::{
-    Form, Formal, GlobalDecl, Literal, Local, LocalBody, Proc, Program, ResultKind, Stmt, VarKind,
+    Formal, Local, Proc, Program, ResultKind, global_place, is_pointer_kind, is_pointer_local,
+    literal_place, locals_of, malloc_count, object_count, object_place, stmts_of,
 };
-
-fn is_pointer_kind(kind: VarKind) -> bool
-    ensures { result ≡ pointer_kind kind }
-{
-    matches!(kind, VarKind::Ptr | VarKind::Pptr | VarKind::Iptr)
-}
-
-fn is_pointer_local(body: LocalBody) -> bool
-    ensures { result ≡ pointer_local body }
-{
-    match body {
-        LocalBody::Var(kind) => is_pointer_kind(kind),
-        LocalBody::Buffer(_) => false,
-        LocalBody::PointerCell => false,
-        LocalBody::IntCell => false,
-    }
-}
 
 /// How many of the formals are pointers.
 fn pointer_formals(formals: &[Formal]) -> usize
@@ -62,30 +46,6 @@ fn local_number(locals: &[Local], name: &[u8]) -> Option<usize>
         .iter()
         .filter(|l| is_pointer_local(l.body))
         .position(|l| l.name.as_slice() == name)
-}
-
-/// The number of the first of the objects that has the name.
-fn object_number(locals: &[Local], name: &[u8]) -> Option<usize>
-    ensures { result ≡ place_of (λ l. l.name) name.now (filter (λ l. object l.body) locals.now) }
-{
-    locals
-        .iter()
-        .filter(|l| is_object(&l.body))
-        .position(|l| l.name.as_slice() == name)
-}
-
-/// The number of the first global that has the name.
-fn global_number(globals: &[GlobalDecl], name: &[u8]) -> Option<usize>
-    ensures { result ≡ place_of (λ g. g.name) name.now globals.now }
-{
-    globals.iter().position(|g| g.name.as_slice() == name)
-}
-
-/// The number of the first literal that has the name.
-fn literal_number(literals: &[Literal], name: &[u8]) -> Option<usize>
-    ensures { result ≡ place_of (λ l. l.name) name.now literals.now }
-{
-    literals.iter().position(|l| l.name.as_slice() == name)
 }
 
 /// The number of the first procedure that has the name.
@@ -185,13 +145,6 @@ pub(crate) fn cell_place(p: &Program, site: usize) -> Option<usize>
     }
 }
 
-/// How many objects a procedure makes as it is entered.
-fn object_count(f: &Proc) -> usize
-    ensures { result ≡ length (objects_of f.now) }
-{
-    locals_of(f).iter().filter(|l| is_object(&l.body)).count()
-}
-
 /// The site of the first object of the procedure of this number.
 fn local_site(p: &Program, proc: usize) -> usize
     requires { proc ≤ length p.now.procs }
@@ -206,43 +159,6 @@ fn local_site(p: &Program, proc: usize) -> usize
         .saturating_add(p.literals.len())
         .saturating_add(1)
         .saturating_add(total)
-}
-
-/// How many calls of malloc stand among statements.
-fn malloc_count(stmts: &[Stmt]) -> usize
-    ensures { result ≡ count_by (λ s. malloc_form s.form) stmts.now }
-{
-    let mut total: usize = 0;
-    for s in stmts {
-        total = total.saturating_add(usize::from(is_malloc(&s.form)));
-    }
-    total
-}
-
-fn is_malloc(form: &Form) -> bool
-    ensures { result ≡ malloc_form form.now }
-{
-    match form {
-        Form::Call { f, .. } => is_malloc_name(f.as_slice()),
-        _ => false,
-    }
-}
-
-/// Whether a name is that of the built-in malloc.
-pub(crate) fn is_malloc_name(name: &[u8]) -> bool
-    ensures { result ≡ bytes_eq name.now (codes "malloc") }
-{
-    name == b"malloc".as_slice()
-}
-
-/// The statements of a procedure; none without a body.
-pub(crate) fn stmts_of(f: &Proc) -> &[Stmt]
-    ensures { result.now ≡ stmts_in f.now.body }
-{
-    match &f.body {
-        None => &[],
-        Some(body) => body.stmts.as_slice(),
-    }
 }
 
 fn proc_mallocs(f: &Proc) -> usize
@@ -352,12 +268,12 @@ pub(crate) fn start_of(p: &Program, known: &[usize], proc: usize) -> usize
 pub(crate) fn site_of(p: &Program, base: usize, f: &Proc, name: &[u8]) -> Option<usize>
     ensures { (proc : ℕ) → base ≡ word (local_site_of p.now proc) → result ≡ option_map word (site_of_name p.now proc f.now name.now) }
 {
-    if let Some(number) = object_number(locals_of(f), name) {
+    if let Some(number) = object_place(f, name) {
         return Some(base.saturating_add(number));
     }
-    match global_number(p.globals.as_slice(), name) {
+    match global_place(p.globals.as_slice(), name) {
         Some(number) => Some(number.saturating_add(1)),
-        None => match literal_number(p.literals.as_slice(), name) {
+        None => match literal_place(p.literals.as_slice(), name) {
             Some(number) => Some(p.globals.len().saturating_add(1).saturating_add(number)),
             None => None,
         },

@@ -1,13 +1,15 @@
 //! A table that gives for each site the place of the set of its pointer cell.
 ghost use Rattle.std.specs.Prelude.{◌≡◌, ◌++◌, IfOk, OnOk, false, map};
 ghost use Rattle.std.specs.List.{filter, flat_map};
-ghost use Rattle.cv_core.specs.Names.{is_object as object, objects_of};
+ghost use Rattle.cv_core.specs.Names.{is_object as object, is_pointer_cell as pointer_cell, is_pointer_global as pointer_global, objects_of};
 ghost use Rattle.cv_points.specs.Growing.{ArePlaces, numbered};
-ghost use Rattle.cv_points.specs.Holders.{cells, first_holder as first_holder_of, is_pointer_cell as pointer_cell, is_pointer_global as pointer_global};
+ghost use Rattle.cv_points.specs.Holders.{cells, first_holder as first_holder_of};
 
 use crate::holders::{first_holder, proc_count};
-use crate::walk::{is_object, is_pointer_cell, is_pointer_global, locals_of};
-use cv_core::{GlobalDecl, Literal, Local, Proc, Program};
+use cv_core::{
+    GlobalDecl, Literal, Local, Proc, Program, is_object, is_pointer_cell, is_pointer_global,
+    locals_of,
+};
 use std::alloc::{AllocError, Global};
 
 /// Puts behind `flags` for each global whether it is a pointer.
@@ -16,7 +18,7 @@ fn flag_globals(flags: &mut Vec<bool>, globals: &[GlobalDecl]) -> Result<(), All
 {
     let mut rest = globals;
     while let [global, tail @ ..] = rest {
-        flags.push(is_pointer_global(&global.body))?;
+        flags.push(is_pointer_global(global.body))?;
         rest = tail;
     }
     Ok(())
@@ -40,8 +42,8 @@ fn flag_locals(flags: &mut Vec<bool>, locals: &[Local]) -> Result<(), AllocError
 {
     let mut rest = locals;
     while let [local, tail @ ..] = rest {
-        if is_object(&local.body) {
-            flags.push(is_pointer_cell(&local.body))?;
+        if is_object(local.body) {
+            flags.push(is_pointer_cell(local.body))?;
         }
         rest = tail;
     }

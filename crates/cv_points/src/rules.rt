@@ -8,10 +8,11 @@ ghost use Rattle.cv_core.specs.declared.program.Program.{Program as ProgramValue
 ghost use Rattle.cv_points.specs.Walks.{AreBases, AreStarts, callee_in, word, word_rule};
 
 use crate::holders::{
-    Bases, cell_place, is_malloc_name, malloc_site, proc_number, result_place, site_of, start_of,
-    variable_place,
+    Bases, cell_place, malloc_site, proc_number, result_place, site_of, start_of, variable_place,
 };
-use cv_core::{AnyOperand, Bytes, Form, Formal, List, Operand, Proc, Program, VarKind};
+use cv_core::{
+    AnyOperand, Bytes, Form, Formal, List, Operand, Proc, Program, VarKind, is_malloc_name,
+};
 
 /// A rule on the sets of a family; holders are given by the places of their sets.
 #[derive(Clone, Copy, PartialEq, Eq, Debug)]

@@ -1,11 +1,13 @@
 //! The walk over the objects of a program to one that has a given number.
 ghost use Rattle.std.specs.Prelude.{IfSome, ◌≡◌, ◌+◌, ◌<◌, ◌≤◌, ◌^◌, length, map, Bool, List as Items};
 ghost use Rattle.std.specs.List.{count_by, filter, flat_map};
-ghost use Rattle.cv_core.specs.Names.{is_object as object, locals_of as locals_in, objects_of};
-ghost use Rattle.cv_points.specs.Holders.{cell_number as number_of_cell, cells, global_cells, object_cells, is_pointer_cell as pointer_cell, is_pointer_global as pointer_global};
+ghost use Rattle.cv_core.specs.Names.{is_object as object, is_pointer_cell as pointer_cell, is_pointer_global as pointer_global, locals_of as locals_in, objects_of};
+ghost use Rattle.cv_points.specs.Holders.{cell_number as number_of_cell, cells, global_cells, object_cells};
 ghost use Rattle.cv_points.specs.Walks.{walk, IsShorter};
 
-use cv_core::{GlobalBody, GlobalDecl, Local, LocalBody, Proc, Program};
+use cv_core::{
+    GlobalDecl, Local, Proc, Program, is_object, is_pointer_cell, is_pointer_global, locals_of,
+};
 
 /// Where a walk over a list of objects ended.
 #[derive(Clone, Copy, PartialEq, Eq, Debug)]
@@ -14,24 +16,6 @@ pub(crate) enum Walk {
     Found(Option<usize>),
     /// Past the list: `skip` objects are still to be skipped, and `seen` pointer cells stood before.
     Past { skip: usize, seen: usize },
-}
-
-pub(crate) fn is_pointer_global(body: &GlobalBody) -> bool
-    ensures { result ≡ pointer_global body.now }
-{
-    matches!(body, GlobalBody::Pointer)
-}
-
-pub(crate) fn is_pointer_cell(body: &LocalBody) -> bool
-    ensures { result ≡ pointer_cell body.now }
-{
-    matches!(body, LocalBody::PointerCell)
-}
-
-pub(crate) fn is_object(body: &LocalBody) -> bool
-    ensures { result ≡ object body.now }
-{
-    !matches!(body, LocalBody::Var(_))
 }
 
 /// Walks over the globals.
@@ -43,7 +27,7 @@ pub(crate) fn walk_globals(globals: &[GlobalDecl], from: usize) -> Walk
     let mut skip = from;
     let mut seen = 0;
     while let [global, tail @ ..] = rest {
-        let is_cell = is_pointer_global(&global.body);
+        let is_cell = is_pointer_global(global.body);
         if skip == 0 {
             return Walk::Found(if is_cell { Some(seen) } else { None });
         }
@@ -64,8 +48,8 @@ fn walk_locals(locals: &[Local], from: usize, before: usize) -> Walk
     let mut skip = from;
     let mut seen = before;
     while let [local, tail @ ..] = rest {
-        if is_object(&local.body) {
-            let is_cell = is_pointer_cell(&local.body);
+        if is_object(local.body) {
+            let is_cell = is_pointer_cell(local.body);
             if skip == 0 {
                 return Walk::Found(if is_cell { Some(seen) } else { None });
             }
@@ -84,16 +68,6 @@ pub(crate) fn walk_proc(f: &Proc, from: usize, before: usize) -> Walk
     ensures shorter { IsShorter (from + before) result }
 {
     walk_locals(locals_of(f), from, before)
-}
-
-/// The locals of a procedure; none without a body.
-pub(crate) fn locals_of(f: &Proc) -> &[Local]
-    ensures { result.now ≡ locals_in f.now.body }
-{
-    match &f.body {
-        None => &[],
-        Some(body) => body.locals.as_slice(),
-    }
 }
 
 /// Walks over the objects of procedures.

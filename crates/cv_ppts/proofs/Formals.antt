@@ -1,4 +1,5 @@
 -- The formals of a call, from the first to the last.
+use Rattle.cv_core.specs.Names.{is_pointer_kind}
 use Rattle.std.proofs.Common.{refl, ℕ, ℤ, zero, suc, ◌≡◌, ◌<◌, ◌≤◌, ◌+◌, Bool, true, false, List, [], ◌∷◌, length, Option, Some, None, add-one, ap, arith, drop, if◌then◌else◌, inl, inr, pos, slice_get, slice_index_or, subst, sym, ◌∙◌, ◌⊎◌}
 use Rattle.std.specs.List.{Contains}
 use Rattle.std.specs.Option.{MatchOption}
@@ -9,7 +10,7 @@ use Rattle.cv_core.specs.declared.program.Formal.{Formal}
 use Rattle.cv_core.specs.declared.program.Proc.{Proc}
 use Rattle.cv_core.specs.declared.program.AnyOperand.TheVariants as any
 use Rattle.cv_core.specs.declared.program.Operand.TheVariants as operand
-use Rattle.cv_points.specs.Holders.{is_pointer_kind, variable_number}
+use Rattle.cv_points.specs.Holders.{variable_number}
 use Rattle.cv_ppts.specs.Choices.{argument_codes, argument_set, set_for}
 use Rattle.cv_ppts.specs.Lacking.{CellsOver, FormalsAhead, FormalsOver, FormalsPicked, Lacks}
 use Rattle.cv_ppts.specs.Picked.{has_pick, pick_at}

@@ -1,14 +1,14 @@
 -- The choices of codes at a call, and what a contract's names stand for under one.
 use Rattle.std.specs.Prelude.{Bool, Contains, List, None, Option, Some, [], drop, false, filter, if◌then◌else◌, length, nat_eq, nat_le, nat_lt, negsuc, not, pos, slice_get, slice_index_or, suc, take, true, zero, ℕ, ℤ, ◌&&◌, ◌-◌, ◌||◌, ◌∷◌, ◌≡◌}
 use Rattle.std.specs.List.{list_any}
-use Rattle.cv_core.specs.Names.{Name, place_of}
+use Rattle.cv_core.specs.Names.{Name, is_pointer_kind, place_of}
 use Rattle.cv_core.specs.declared.program.AnyOperand.{AnyOperand}
 use Rattle.cv_core.specs.declared.program.Formal.{Formal}
 use Rattle.cv_core.specs.declared.program.Item.{Item}
 use Rattle.cv_core.specs.declared.program.Proc.{Proc}
 use Rattle.cv_core.specs.declared.program.PtrTerm.{PtrTerm, Row_of-PtrTerm, end_of-PtrTerm, more_of-PtrTerm}
 use Rattle.cv_core.specs.declared.program.VarKind.{VarKind}
-use Rattle.cv_points.specs.Holders.{is_pointer_kind, variable_number}
+use Rattle.cv_points.specs.Holders.{variable_number}
 use Rattle.cv_ppts.specs.Entities.{class_at, global_number, is_member, same_class}
 use Rattle.cv_ppts.specs.Plain.{Sets, codes_at}
 use Rattle.cv_ppts.specs.Setting.{Setting, block_count, cell_blocks, content_place, first_content, global_code, literal_codes}

@@ -2,7 +2,7 @@
 -- what blocks of pointer cells hold.
 use Rattle.std.specs.Prelude.{Bool, List, None, Option, Some, [], false, flat_map, if◌then◌else◌, length, map, slice_get, suc, true, ℕ, ◌++◌, ◌+◌, ◌==◌, ◌∷◌}
 use Rattle.std.specs.List.{list_any}
-use Rattle.cv_core.specs.Names.{Name, place_of, stmts_of}
+use Rattle.cv_core.specs.Names.{Name, is_pointer_kind, place_of, stmts_of}
 use Rattle.cv_core.specs.declared.program.Form.{Form}
 use Rattle.cv_core.specs.declared.program.Formal.{Formal}
 use Rattle.cv_core.specs.declared.program.GlobalBody.{GlobalBody}
@@ -11,7 +11,7 @@ use Rattle.cv_core.specs.declared.program.Proc.{Proc}
 use Rattle.cv_core.specs.declared.program.Program.{Program}
 use Rattle.cv_core.specs.declared.program.VarKind.{VarKind}
 use Rattle.cv_points.specs.Closed.{Family, set_at}
-use Rattle.cv_points.specs.Holders.{cell_place, first_holder, is_pointer_kind}
+use Rattle.cv_points.specs.Holders.{cell_place, first_holder}
 use Rattle.cv_ppts.specs.declared.entities.Block.{Block}
 use Rattle.cv_ppts.specs.declared.entities.Class.{Class}
 use Rattle.cv_ppts.specs.declared.entities.Entity.{Entity}

@@ -2,10 +2,9 @@
 use Rattle.std.specs.Prelude.{Bool, Contains, List, None, Option, Some, drop, false, if◌then◌else◌, slice_get, true, ℕ, ℤ, ◌<◌, ◌||◌, ◌≡◌, ◌≤◌}
 use Rattle.std.specs.List.{list_any}
 use Rattle.cv_core.specs.declared.program.AnyOperand.{AnyOperand}
-use Rattle.cv_core.specs.Names.{Name}
+use Rattle.cv_core.specs.Names.{Name, is_pointer_kind}
 use Rattle.cv_core.specs.declared.program.Formal.{Formal}
 use Rattle.cv_core.specs.declared.program.Proc.{Proc}
-use Rattle.cv_points.specs.Holders.{is_pointer_kind}
 use Rattle.cv_ppts.specs.Choices.{argument_set, cell_set, is_named_cell, is_starred, is_target, listed_cell}
 use Rattle.cv_ppts.specs.Picked.{Over, OverPick, has_pick}
 use Rattle.cv_ppts.specs.Plain.{HasCode, IsWithin, Sets}

@@ -3,12 +3,12 @@
 use Rattle.std.specs.Prelude.{Bool, List, None, Option, Some, [], bytes_eq, codes as text, count_by, drop, false, if◌then◌else◌, is_some, length, map, max, nat_eq, nat_le, option_map, slice_get, slice_index_or, suc, take, true, zero, ℕ, ◌+◌, ◌-◌, ◌||◌, ◌∷◌, ◌≡◌, ◌<◌}
 use Rattle.std.specs.List.{list_any}
 use Rattle.cv_core.specs.Meant.{built_in, called}
-use Rattle.cv_core.specs.Names.{Name, objects_of, place_of, stmts_of}
+use Rattle.cv_core.specs.Names.{Name, is_pointer_cell, objects_of, place_of, stmts_of}
 use Rattle.cv_core.specs.declared.program.Atom.{Atom}
 use Rattle.cv_core.specs.declared.program.Form.{Form}
 use Rattle.cv_core.specs.declared.program.Proc.{Proc}
 use Rattle.cv_core.specs.declared.program.Program.{Program}
-use Rattle.cv_points.specs.Holders.{is_pointer_cell, pointer_count, pointer_formals}
+use Rattle.cv_points.specs.Holders.{pointer_count, pointer_formals}
 use Rattle.cv_ppts.specs.Allowed.{code_at, number_among}
 use Rattle.cv_ppts.specs.Entities.{class_at, class_of_kind, global_number, listed_of, literals_of, same_class}
 use Rattle.cv_ppts.specs.declared.entities.Class.{Class}

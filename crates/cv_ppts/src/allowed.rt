@@ -2,16 +2,15 @@
 ghost use Rattle.std.specs.Prelude.{◌≡◌, ◌+◌, ◌||◌, [], drop, length, map, nat_eq, position, slice_get, slice_index_or, take};
 ghost use Rattle.std.specs.List.{count_by, filter, list_any};
 ghost use Rattle.std.specs.Option.{option_and_then, option_map};
-ghost use Rattle.cv_core.specs.Names.{place_of};
-ghost use Rattle.cv_points.specs.Holders.{is_pointer_kind as pointer_kind};
+ghost use Rattle.cv_core.specs.Names.{is_pointer_kind as pointer_kind, place_of};
 ghost use Rattle.cv_ppts.specs.Allowed.{code_at as code_at_of, code_of_content as code_of_content_in, code_of_name as code_of_name_in, code_or_none as code_or_none_of, entity_number as entity_number_of, is_allowed as is_allowed_in, is_cell_block as is_cell_block_of, is_changed_literal as is_changed_literal_in, is_false_atom as is_false_atom_in, is_false_maybe, is_false_part as is_false_part_in, is_false_term as is_false_term_in, is_not_apart as is_not_apart_of, is_other_base as is_other_base_of, is_pointer_global as is_pointer_global_in, is_undefined as is_undefined_of, is_wrong_null as is_wrong_null_of, item_code as item_code_in, lacks_object as lacks_object_of, named_code as named_code_in, named_codes, number_among as number_among_of, pointer_code as pointer_code_in, starred_code as starred_code_in};
 ghost use Rattle.cv_ppts.specs.Entities.{class_at as class_at_of};
 ghost use Rattle.cv_ppts.specs.Seen.{scene};
 
 use crate::blocks::{is_member, same_class};
 use crate::entities::{Block, Class};
-use crate::named::{class_named, global_number, is_pointer_kind};
-use cv_core::{Atom, Bytes, Formal, Item, LinPart, Proc, Program, PtrTerm, Term};
+use crate::named::{class_named, global_number};
+use cv_core::{Atom, Bytes, Formal, Item, LinPart, Proc, Program, PtrTerm, Term, is_pointer_kind};
 
 /// A case as a contract at entry sees it.
 #[derive(Drop)]

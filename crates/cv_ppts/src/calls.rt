@@ -11,15 +11,17 @@ ghost use Rattle.cv_ppts.specs.Picked.{choice_of, gift_at as gift_at_in, pick_at
 ghost use Rattle.cv_ppts.specs.Setting.{callee as callee_in, content_place as content_place_of};
 ghost use Rattle.cv_ppts.specs.Targets.{AfterHolds, AlternativeHolds, AreLost, CallHolds, CalleeHolds, CellAsked, ChoiceHolds, GivenHolds, IsAsked, IsLost, MallocHolds, MaybeAsked, alternatives as alternatives_of, assigned as assigned_of, is_new as is_new_code};
 
-use crate::named::is_pointer_kind;
 use crate::outcomes::{Code, Gifts, gift_at, gift_by, has_false_atom, settled};
 use crate::picks::{
     Codes, Picks, has_pick, is_failing, item_target, listed_cell, pick_at, starred_cell,
 };
-use crate::places::{as_code, callee, content_place, has_fresh, is_malloc, variable_number};
+use crate::places::{as_code, callee, content_place, has_fresh, variable_number};
 use crate::sets::{Missing, has_code, missing_code, set_at};
 use crate::setting::Scope;
-use cv_core::{AnyOperand, Atom, Bytes, Formal, Item, List, Operand, Proc, VarKind};
+use cv_core::{
+    AnyOperand, Atom, Bytes, Formal, Item, List, Operand, Proc, VarKind, is_malloc_name,
+    is_pointer_kind,
+};
 
 /// Whether the set at a place has the code of a target.
 fn has_target(sets: &[List<i32>], place: u128, target: u128) -> bool
@@ -649,7 +651,7 @@ pub(crate) fn missing_in_call(
     requires { target < 2 ^ 66 }
     ensures { MatchOption result (CallHolds (setting s.entry.now) sets.now (pos target) into name.now args.now) (λ m. Lacks sets.now (λ R. CallHolds (setting s.entry.now) R (pos target) into name.now args.now) m.to m.code) }
 {
-    if is_malloc(name) {
+    if is_malloc_name(name.as_slice()) {
         missing_malloc(sets, target, into)
     } else {
         missing_in_procedure(s, sets, target, into, name, args)

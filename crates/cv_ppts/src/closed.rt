@@ -12,14 +12,13 @@ ghost use Rattle.cv_ppts.specs.Targets.{AreClosed, AreClosedFor, CallFormHolds, 
 use crate::calls::{missing_in_call, missing_losses};
 use crate::codes::{Case, Targets};
 use crate::listing::proc_at;
-use crate::named::stmts_of;
-use crate::places::{allocates, cell_count, local_count, locals_of, new_target, pointer_count};
+use crate::places::{allocates, cell_count, local_count, new_target, pointer_count};
 use crate::scope::{block_count, cell_blocks, content_codes, formals_of, scope_of};
 use crate::sets::{
     Missing, Rule, missing_by, missing_coded, missing_unknown, place_of_variable, plain_rule,
 };
 use crate::setting::Scope;
-use cv_core::{AnyOperand, Bytes, Form, List, Proc, Program, Stmt};
+use cv_core::{AnyOperand, Bytes, Form, List, Proc, Program, Stmt, locals_of, stmts_of};
 
 // ---- the codes at entry
 

@@ -8,11 +8,10 @@ ghost use Rattle.cv_ppts.specs.Planned.{IsPlan};
 ghost use Rattle.cv_ppts.specs.Targets.{AreClosed, HoldsAt};
 
 use crate::closed::missing_at_entry;
-use crate::named::stmts_of;
 use crate::plan::{Plan, missing_by_plan};
 use crate::sets::Missing;
 use crate::setting::Scope;
-use cv_core::List;
+use cv_core::{List, stmts_of};
 use std::alloc::{AllocError, Global};
 
 /// So many empty sets.

@@ -1,23 +1,17 @@
 //! The entities of a procedure.
 ghost use Rattle.std.specs.Prelude.{◌≡◌, ◌++◌, ◌∷◌, [], IfOk, OnOk, flat_map, map, slice_get, suc};
 ghost use Rattle.std.specs.Option.{option_and_then, option_copied};
-ghost use Rattle.cv_core.specs.Names.{place_of, stmts_of as stmts_in};
+ghost use Rattle.cv_core.specs.Names.{is_pointer_kind as pointer_kind, place_of, stmts_of as stmts_in};
 ghost use Rattle.cv_points.specs.Closed.{set_at as set_of};
-ghost use Rattle.cv_points.specs.Holders.{is_pointer_kind as pointer_kind};
 ghost use Rattle.cv_ppts.specs.Entities.{as_list, class_at as class_at_of, class_of_global as class_of_global_body, class_of_kind as class_of_variable, distinct as distinct_in, formal_entities as formal_entities_of, formal_entity as formal_entity_of, global_entity as global_entity_of, global_number as global_number_of, literal_entity as literal_entity_of, literal_in as literal_number_in, listed_of as listed_in, literals_of as literals_in};
 
 use crate::blocks::is_member;
 use crate::entities::{Class, Entity};
 use cv_core::{
-    Bytes, Form, Formal, GlobalBody, GlobalDecl, List, Literal, Proc, Program, Stmt, VarKind,
+    Bytes, Form, Formal, GlobalBody, GlobalDecl, List, Proc, Program, Stmt, VarKind, global_place,
+    is_pointer_kind, literal_place, stmts_of,
 };
 use std::alloc::{AllocError, Global};
-
-pub(crate) fn is_pointer_kind(kind: VarKind) -> bool
-    ensures { result ≡ pointer_kind kind }
-{
-    matches!(kind, VarKind::Ptr | VarKind::Pptr | VarKind::Iptr)
-}
 
 /// The class of the objects to which a variable points.
 pub(crate) fn class_of_kind(kind: VarKind) -> Class
@@ -112,30 +106,14 @@ fn distinct(alloc: Global, numbers: &[u32]) -> Result<Vec<u32>, AllocError>
 pub(crate) fn global_number(p: &Program, name: &Bytes) -> Option<usize>
     ensures { result ≡ global_number_of p.now name.now }
 {
-    let text = name.as_slice();
-    p.globals
-        .as_slice()
-        .iter()
-        .position(|g| g.name.as_slice() == text)
-}
-
-fn literal_number(literals: &[Literal], name: &[u8]) -> Option<usize>
-    ensures { result ≡ place_of (λ l. l.name) name.now literals.now }
-{
-    literals.iter().position(|l| l.name.as_slice() == name)
-}
-
-fn literals(p: &Program) -> &[Literal]
-    ensures { result.now ≡ p.now.literals }
-{
-    p.literals.as_slice()
+    global_place(p.globals.as_slice(), name.as_slice())
 }
 
 /// The number of the first literal that has the name.
 pub(crate) fn literal_named(p: &Program, name: &Bytes) -> Option<usize>
     ensures { result ≡ place_of (λ l. l.name) name.now p.now.literals }
 {
-    literal_number(literals(p), name.as_slice())
+    literal_place(p.literals.as_slice(), name.as_slice())
 }
 
 /// The number of the literal whose address a statement takes.
@@ -204,16 +182,6 @@ pub(crate) fn listed_of(alloc: Global, p: &Program, f: &Proc) -> Result<Vec<u32>
     let all = globals_named(alloc, p, f.contract.listed.as_slice())?;
     let numbers = distinct(alloc, all.as_slice())?;
     Ok(numbers)
-}
-
-/// The statements of a procedure; none without a body.
-pub(crate) fn stmts_of(f: &Proc) -> &[Stmt]
-    ensures { result.now ≡ stmts_in f.now.body }
-{
-    match &f.body {
-        None => &[],
-        Some(body) => body.stmts.as_slice(),
-    }
 }
 
 /// The literals that the statements of a procedure name, by number, each once.

@@ -1,8 +1,7 @@
 //! The codes under a choice of what a contract's names stand for.
 ghost use Rattle.std.specs.Prelude.{◌≡◌, ◌||◌, filter, length, take};
 ghost use Rattle.std.specs.List.{list_any};
-ghost use Rattle.cv_core.specs.Names.{place_of};
-ghost use Rattle.cv_points.specs.Holders.{is_pointer_kind as pointer_kind};
+ghost use Rattle.cv_core.specs.Names.{is_pointer_kind as pointer_kind, place_of};
 ghost use Rattle.cv_ppts.specs.Choices.{cell_from as cell_from_of, cell_of as cell_of_term, code_of as code_of_term, code_of_name as code_of_name_in, earlier_cells as earlier_cells_of, earlier_pointers as earlier_pointers_of, has_unknown_formal as has_unknown_formal_in, held_by as held_by_in, is_cell_class as is_cell_class_of, is_content_name as is_content_name_of, is_failing as is_failing_in, is_modified as is_modified_in, is_permitted as is_permitted_in, is_refused as is_refused_in, is_target as is_target_of, is_unknown as is_unknown_code, is_unknown_cell as is_unknown_cell_in, is_unknown_formal as is_unknown_formal_in, item_target as item_target_in, listed_cell as listed_cell_of, named_code as named_code_in, object_in as object_in_code, object_of as object_of_code, starred_cell as starred_cell_of};
 ghost use Rattle.cv_ppts.specs.Entities.{is_member as is_member_of};
 ghost use Rattle.cv_ppts.specs.Keys.{setting};
@@ -11,10 +10,10 @@ ghost use Rattle.cv_ppts.specs.Picked.{choice_of, has_pick as has_pick_in, pick_
 use crate::allowed::{code_at, formal_count};
 use crate::blocks::same_class;
 use crate::entities::Class;
-use crate::named::{class_of_global_number, global_number, is_pointer_kind};
+use crate::named::{class_of_global_number, global_number};
 use crate::scope::{block_count, cell_blocks, content_codes, global_code, literal_codes};
 use crate::setting::Scope;
-use cv_core::{Bytes, Formal, Item, Proc, PtrTerm, VarKind};
+use cv_core::{Bytes, Formal, Item, Proc, PtrTerm, VarKind, is_pointer_kind};
 
 /// Codes that were picked, by key, the latest first.
 #[derive(Clone, Copy)]

@@ -2,51 +2,22 @@
 ghost use Rattle.std.specs.Prelude.{◌≡◌, ◌+◌, ◌<◌, ◌≤◌, ◌^◌, IfOk, bytes_eq, codes as text, count_by, filter, find, is_some, length, map, option_copied, pos, slice_index_or, take};
 ghost use Rattle.std.specs.List.{list_any};
 ghost use Rattle.cv_core.specs.Meant.{built_in as built_in_of, called as called_of};
-ghost use Rattle.cv_core.specs.Names.{is_object as object, locals_of as locals_in, objects_of, place_of, stmts_of as stmts_in};
-ghost use Rattle.cv_points.specs.Holders.{is_pointer_cell as pointer_cell, is_pointer_local as pointer_local, pointer_count as pointer_count_of, variable_number as variable_number_of};
+ghost use Rattle.cv_core.specs.Names.{is_object as object, is_pointer_cell as pointer_cell, is_pointer_local as pointer_local, locals_of as locals_in, objects_of, place_of, stmts_of as stmts_in};
+ghost use Rattle.cv_points.specs.Holders.{pointer_count as pointer_count_of, variable_number as variable_number_of};
 ghost use Rattle.cv_ppts.specs.Keys.{setting};
 ghost use Rattle.cv_ppts.specs.Plain.{content_in as content_in_of};
 ghost use Rattle.cv_ppts.specs.Setting.{AreContents, allocates as allocates_of, block_content as block_content_of, callee as callee_in, cell_number as cell_number_of, content_place as content_place_of, gives_fresh as gives_fresh_of, is_fresh as is_fresh_of, new_target as new_target_of, object_cells, object_content as object_content_of, set_count as set_count_of, target_of_name as target_of_name_in};
 
 use crate::allowed::{formal_count, formal_number};
-use crate::named::{global_number, is_pointer_kind, literal_named, stmts_of};
+use crate::named::{global_number, literal_named};
 use crate::scope::{block_count, cell_blocks, global_code, is_cell_block, literal_code};
 use crate::setting::Scope;
-use cv_core::{Atom, Bytes, Form, List, Local, LocalBody, Proc, Program, Stmt};
+use cv_core::{
+    Atom, Bytes, Form, List, Local, LocalBody, Proc, Program, Stmt, built_in, called,
+    is_malloc_name, is_object, is_pointer_cell, is_pointer_local, locals_of, object_count,
+    object_place, stmts_of,
+};
 use std::alloc::{AllocError, Global};
-
-fn is_pointer_local(body: LocalBody) -> bool
-    ensures { result ≡ pointer_local body }
-{
-    match body {
-        LocalBody::Var(kind) => is_pointer_kind(kind),
-        LocalBody::Buffer(_) => false,
-        LocalBody::PointerCell => false,
-        LocalBody::IntCell => false,
-    }
-}
-
-fn is_object(body: LocalBody) -> bool
-    ensures { result ≡ object body }
-{
-    !matches!(body, LocalBody::Var(_))
-}
-
-fn is_pointer_cell(body: LocalBody) -> bool
-    ensures { result ≡ pointer_cell body }
-{
-    matches!(body, LocalBody::PointerCell)
-}
-
-/// The locals of a procedure; none without a body.
-pub(crate) fn locals_of(f: &Proc) -> &[Local]
-    ensures { result.now ≡ locals_in f.now.body }
-{
-    match &f.body {
-        None => &[],
-        Some(body) => body.locals.as_slice(),
-    }
-}
 
 /// How many of the locals are pointers.
 pub(crate) fn local_count(locals: &[Local]) -> usize
@@ -63,23 +34,6 @@ fn local_number(locals: &[Local], name: &[u8]) -> Option<usize>
         .iter()
         .filter(|l| is_pointer_local(l.body))
         .position(|l| l.name.as_slice() == name)
-}
-
-/// The number of the first of the objects that has the name.
-fn object_number(locals: &[Local], name: &[u8]) -> Option<usize>
-    ensures { result ≡ place_of (λ l. l.name) name.now (filter (λ l. object l.body) locals.now) }
-{
-    locals
-        .iter()
-        .filter(|l| is_object(l.body))
-        .position(|l| l.name.as_slice() == name)
-}
-
-/// How many objects a procedure makes as it is entered.
-fn object_count(locals: &[Local]) -> usize
-    ensures { result ≡ length (filter (λ l. object l.body) locals.now) }
-{
-    locals.iter().filter(|l| is_object(l.body)).count()
 }
 
 /// How many pointer cells stand among the locals.
@@ -231,7 +185,7 @@ pub(crate) fn target_of_name(s: &Scope, name: &Bytes) -> u128
     ensures value { result ≡ target_of_name_in (setting s.entry.now) name.now }
     ensures small { result < 2 ^ 66 }
 {
-    match object_number(locals_of(s.f), name.as_slice()) {
+    match object_place(s.f, name.as_slice()) {
         Some(number) => u128::from(block_count(s)) + number as u128 + 1,
         None => match global_number(s.p, name) {
             Some(number) => u128::from(global_code(s, Some(number))),
@@ -250,33 +204,14 @@ pub(crate) fn as_code(target: u128) -> i128
 
 // ---- statements that allocate
 
-/// Whether a name is that of a built-in procedure.
-fn is_built_in(name: &[u8]) -> bool
-    ensures { result ≡ is_some (built_in_of name.now) }
-{
-    name == b"malloc".as_slice() || name == b"getchar".as_slice() || name == b"putchar".as_slice()
-}
-
-pub(crate) fn is_malloc(name: &Bytes) -> bool
-    ensures { result ≡ bytes_eq name.now (text "malloc") }
-{
-    name.as_slice() == b"malloc".as_slice()
-}
-
-fn called<'a>(procs: &'a [Proc], name: &[u8]) -> Option<&'a Proc>
-    ensures { option_copied result ≡ find (λ h. bytes_eq h.name name.now) procs.now }
-{
-    procs.iter().find(|h| h.name.as_slice() == name)
-}
-
 /// The procedure of the program that a name calls; none for a built-in name.
 pub(crate) fn callee<'a>(p: &'a Program, name: &Bytes) -> Option<&'a Proc>
     ensures { option_copied result ≡ callee_in p.now name.now }
 {
-    if is_built_in(name.as_slice()) {
+    if built_in(name.as_slice()).is_some() {
         None
     } else {
-        called(p.procs.as_slice(), name.as_slice())
+        called(p, name.as_slice())
     }
 }
 
@@ -313,7 +248,7 @@ pub(crate) fn allocates(p: &Program, form: &Form) -> bool
     ensures { result ≡ allocates_of p.now form.now }
 {
     match form {
-        Form::Call { f, .. } => is_malloc(f) || gives_fresh(callee(p, f)),
+        Form::Call { f, .. } => is_malloc_name(f.as_slice()) || gives_fresh(callee(p, f)),
         _ => false,
     }
 }
@@ -340,7 +275,7 @@ pub(crate) fn new_target(s: &Scope, statement: usize) -> u128
     ensures small { result < 2 ^ 66 }
 {
     u128::from(block_count(s))
-        + object_count(locals_of(s.f)) as u128
+        + object_count(s.f) as u128
         + allocating(s.p, &stmts_of(s.f)[..statement]) as u128
         + 1
 }

@@ -9,11 +9,10 @@ ghost use Rattle.cv_ppts.specs.Setting.{new_target as new_target_of};
 ghost use Rattle.cv_ppts.specs.Targets.{HoldsAt};
 
 use crate::closed::{missing_for, statement_at};
-use crate::named::stmts_of;
 use crate::places::{allocates, new_target};
 use crate::sets::{Missing, Rule, plain_rule};
 use crate::setting::Scope;
-use cv_core::List;
+use cv_core::{List, stmts_of};
 use std::alloc::{AllocError, Global};
 
 /// The rules and the targets of the statements.

@@ -1,6 +1,7 @@
 //! The entities and blocks of a case.
+ghost use Rattle.cv_core.specs.Names.{is_pointer_kind as pointer_kind};
 ghost use Rattle.std.specs.Prelude.{◌≡◌, ◌+◌, ◌<◌, ◌≤◌, MatchBool, None as Nothing, Some, drop, filter, length, map, nat_eq, position, slice_index_or};
-ghost use Rattle.cv_points.specs.Holders.{is_pointer_kind as pointer_kind, pointer_formals};
+ghost use Rattle.cv_points.specs.Holders.{pointer_formals};
 ghost use Rattle.cv_ppts.specs.Entities.{as_list, class_of_kind as class_of_variable, distinct as distinct_of, is_member as is_member_of, literals_of};
 ghost use Rattle.cv_ppts.specs.Keys.{keys as keys_of, later_numbers, new_number, numbers, seen_numbers, setting};
 ghost use Rattle.cv_ppts.specs.Setting.{block_class as block_class_of, block_count as block_count_of, cell_blocks as cell_blocks_of, class_or as class_or_of, class_with, first_content as first_content_of, global_code as global_code_of, global_classes, greatest as greatest_of, is_cell_block as is_cell_block_of, listed, literal_code as literal_code_of, literal_codes as literal_codes_of};
@@ -8,11 +9,9 @@ ghost use Rattle.cv_ppts.specs.Setting.{block_class as block_class_of, block_cou
 use crate::allowed::{behind, code_behind, first, formal_count};
 use crate::blocks::same_class;
 use crate::entities::Class;
-use crate::named::{
-    class_of_global_number, class_of_kind, global_number, is_pointer_kind, literal_in, stmts_of,
-};
+use crate::named::{class_of_global_number, class_of_kind, global_number, literal_in};
 use crate::setting::Scope;
-use cv_core::{Formal, Proc, Program};
+use cv_core::{Formal, Proc, Program, is_pointer_kind, stmts_of};
 
 /// What stands for an entity each time that it is named.
 #[derive(Clone, Copy, PartialEq, Eq, Debug)]

@@ -7,7 +7,7 @@ use Rattle.cv_core.specs.Both.{first_true}
 use Rattle.cv_core.specs.Grammar.{Tree}
 use Rattle.cv_core.specs.Kinds.{has_kinds, means_number, means_ptr, same_pointers}
 use Rattle.cv_core.specs.Meant.{meant_by_global, meant_by_local, meant_in}
-use Rattle.cv_core.specs.Names.{Name, locals_of}
+use Rattle.cv_core.specs.Names.{Name, is_pointer_kind, locals_of}
 use Rattle.cv_core.specs.declared.program.Form.{Form}
 use Rattle.cv_core.specs.declared.program.Form.TheVariants as form
 use Rattle.cv_core.specs.declared.program.Formal.{Formal}
@@ -24,7 +24,7 @@ use Rattle.cv_core.specs.declared.program.ProcBody.{ProcBody}
 use Rattle.cv_core.specs.declared.program.Program.{Program}
 use Rattle.cv_core.specs.declared.program.VarKind.{VarKind}
 use Rattle.cv_core.specs.declared.program.VarKind.TheVariants as kind
-use Rattle.cv_text.specs.Grammar.{AsDeclared, is_pointer, is_pointer_kind, variables_of}
+use Rattle.cv_text.specs.Grammar.{AsDeclared, is_pointer, variables_of}
 
 -- ---- the statements of a program
 

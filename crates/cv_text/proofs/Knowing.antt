@@ -1,4 +1,5 @@
 -- What a table of declared names knows, name by name.
+use Rattle.cv_core.specs.Names.{is_pointer_kind}
 use Rattle.std.proofs.Common.{◌≡◌, ℕ, Bool, true, false, cond, if◌then◌else◌, List, [], ◌∷◌, ◌++◌, Option, Some, None, is_some, refl, sym, ap, subst, ◌∙◌, ◌⊎◌, inl, inr}
 use mathlib.Core.Path.{fun_ext}
 use Rattle.std.specs.Option.{unwrap_or}
@@ -7,7 +8,7 @@ use Rattle.std.specs.Map.{update}
 use Rattle.cv_core.specs.declared.program.Formal.{Formal}
 use Rattle.cv_core.specs.declared.program.VarKind.{VarKind}
 use Rattle.cv_text.specs.declared.names.Scope.{Scope}
-use Rattle.cv_text.specs.Grammar.{is_pointer, is_pointer_kind}
+use Rattle.cv_text.specs.Grammar.{is_pointer}
 use Rattle.cv_text.specs.Known.{entry, points, or_else, said, first_said}
 use Rattle.cv_text.proofs.Singles.{same_bytes, bytes_same}
 

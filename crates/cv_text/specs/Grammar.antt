@@ -1,4 +1,5 @@
 -- The grammar of CoreC: which lines of tokens spell which tree. It knows no reader.
+use Rattle.cv_core.specs.Names.{is_pointer_kind}
 use Rattle.std.specs.Prelude.{◌≡◌, ℕ, ◌+◌, ◌<◌, ◌≤◌, ◌^◌, Bool, true, false, if◌then◌else◌, List, [], ◌∷◌, Some, None, ℤ, pos, neg_ℤ, ◌⊎◌}
 use Rattle.std.specs.Str.{bytes_eq}
 use Rattle.cv_core.specs.declared.program.GlobalDecl.{GlobalDecl}
@@ -139,13 +140,6 @@ Phrase (form.Return (Some e)) = Word key.Return ⋅ Any e ⋅ end
 
 -- A phrase that fits two statements is the one of pointers exactly where the name on the left is a variable of a pointer kind.
 -- Of several declarations of a name as a variable the first counts, and a name without one is an int.
-abbrev pub is_pointer_kind : VarKind → Bool
-is_pointer_kind kind.Int = false
-is_pointer_kind kind.Char = false
-is_pointer_kind kind.Ptr = true
-is_pointer_kind kind.Pptr = true
-is_pointer_kind kind.Iptr = true
-
 abbrev pub is_pointer : List Formal → List ℕ → Bool
 is_pointer [] x = false
 is_pointer (v ∷ vs) x = if bytes_eq v.name x then is_pointer_kind v.kind else is_pointer vs x

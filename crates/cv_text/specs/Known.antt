@@ -1,4 +1,5 @@
 -- What a table of declared names knows.
+use Rattle.cv_core.specs.Names.{is_pointer_kind}
 use Rattle.std.specs.Prelude.{ℕ, Bool, false, if◌then◌else◌, List, [], ◌∷◌, Option, Some, None}
 use Rattle.std.specs.Option.{unwrap_or}
 use Rattle.std.specs.Str.{bytes_eq}
@@ -6,7 +7,6 @@ use Rattle.std.specs.HashMap.{get_by}
 use Rattle.cv_core.specs.declared.program.Formal.{Formal}
 use Rattle.cv_core.specs.declared.program.VarKind.{VarKind}
 use Rattle.cv_text.specs.declared.names.Scope.{Scope}
-use Rattle.cv_text.specs.Grammar.{is_pointer_kind}
 
 -- whether a name is a pointer, where it is declared
 abbrev pub entry : Scope → List ℕ → Option Bool

@@ -1,10 +1,11 @@
 //! Which declared names are variables of a pointer kind.
 
+ghost use Rattle.cv_core.specs.Names.{is_pointer_kind as is_pointer_kind_of};
 ghost use Rattle.std.specs.Prelude.{◌≡◌, ◌++◌, ℕ, None, OnOk, IfOk, List as Items};
-ghost use Rattle.cv_text.specs.Grammar.{is_pointer, is_pointer_kind as is_pointer_kind_of, variables_of};
+ghost use Rattle.cv_text.specs.Grammar.{is_pointer, variables_of};
 ghost use Rattle.cv_text.specs.Known.{entry, points, or_else, said, first_said};
 
-use cv_core::{Formal, Local, LocalBody, VarKind};
+use cv_core::{Formal, Local, LocalBody, VarKind, is_pointer_kind};
 use std::alloc::{AllocError, Global};
 use std::collections::HashMap;
 
@@ -12,12 +13,6 @@ use std::collections::HashMap;
 #[derive(Drop)]
 pub(crate) struct Scope<'a> {
     pointers: HashMap<&'a [u8], bool>,
-}
-
-fn is_pointer_kind(kind: VarKind) -> bool
-    ensures { result ≡ is_pointer_kind_of kind }
-{
-    matches!(kind, VarKind::Ptr | VarKind::Pptr | VarKind::Iptr)
 }
 
 impl<'a> Scope<'a> {

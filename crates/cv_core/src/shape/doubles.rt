@@ -5,8 +5,9 @@ ghost use Rattle.std.specs.Option.{is_some};
 ghost use Rattle.cv_core.specs.Doubles.{formal_twice as formal_twice_of, global_twice as global_twice_of, literal_twice as literal_twice_of, local_twice as local_twice_of, proc_twice as proc_twice_of, repeats};
 ghost use Rattle.cv_core.specs.Meant.{formal_meant as formal_meant_of, literal_meant as literal_meant_of, outer_meant as outer_meant_of};
 
+use crate::names::{built_in, locals_of};
 use crate::program::{Formal, GlobalDecl, Literal, Local, Proc, Program};
-use crate::shape::names::{built_in, formal_meant, locals_of};
+use crate::shape::names::formal_meant;
 use crate::shape::tables::{Names, literal_meant, outer_meant};
 use cv_list::Bytes;
 
@@ -136,7 +137,7 @@ pub(crate) fn proc_twice(p: &Program, number: usize, f: &Proc) -> bool
     requires { number ≤ length p.now.procs }
     ensures { result ≡ proc_twice_of p.now number f.now }
 {
-    let built = built_in(&f.name).is_some();
+    let built = built_in(f.name.as_slice()).is_some();
     let earlier = some_proc_has(&p.procs.as_slice()[..number], &f.name);
     built || earlier
 }

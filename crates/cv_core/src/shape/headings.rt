@@ -2,8 +2,9 @@
 ghost use Rattle.std.specs.Prelude.{◌≡◌, ◌&&◌, ◌==◌, bytes_eq, codes, length, not};
 ghost use Rattle.std.specs.List.{list_any};
 ghost use Rattle.std.specs.Option.{option_copied};
-ghost use Rattle.cv_core.specs.Headings.{ascend as ascend_of, breaks_extern as breaks_extern_of, breaks_main as breaks_main_of, gives_int as int_given, gives_range as gives_range_of, greatest_of as greatest, has_extern_form as extern_form, is_empty_body as empty_body, is_int as int_kind, is_main as main_name, is_main_kind as main_kind, is_range as range, is_subject as subject, least_of as least, lone_number as number_of, lone_term as term_of, number_alone as number_alone_of, takes_range as takes_range_of, term_alone as term_alone_of};
+ghost use Rattle.cv_core.specs.Headings.{ascend as ascend_of, breaks_extern as breaks_extern_of, breaks_main as breaks_main_of, gives_int as int_given, gives_range as gives_range_of, greatest_of as greatest, has_extern_form as extern_form, is_empty_body as empty_body, is_int as int_kind, is_main_kind as main_kind, is_range as range, is_subject as subject, least_of as least, lone_number as number_of, lone_term as term_of, number_alone as number_alone_of, takes_range as takes_range_of, term_alone as term_alone_of};
 
+use crate::names::is_main;
 use crate::program::{Atom, Formal, LinPart, Proc, Rel, ResultKind, Term, VarKind};
 use cv_list::{Bytes, List};
 
@@ -29,12 +30,6 @@ pub(crate) fn is_empty_body(f: &Proc) -> bool
     }
 }
 
-pub(crate) fn is_main(name: &Bytes) -> bool
-    ensures { result ≡ main_name name.now }
-{
-    name.as_slice() == b"main".as_slice()
-}
-
 fn is_main_kind(kind: VarKind) -> bool
     ensures { result ≡ main_kind kind }
 {
@@ -52,7 +47,7 @@ fn has_odd_formal(formals: &List<Formal>) -> bool
 pub(crate) fn breaks_main(f: &Proc) -> bool
     ensures { result ≡ breaks_main_of f.now }
 {
-    let named = is_main(&f.name);
+    let named = is_main(f.name.as_slice());
     let bodyless = f.body.is_none();
     let int = gives_int(f.answer);
     let odd = has_odd_formal(&f.formals);

@@ -4,8 +4,10 @@ ghost use Rattle.std.specs.Option.{option_copied};
 ghost use Rattle.cv_core.specs.Kinds.{calls as calls_of, compares as compares_of, copies as copies_of, counts as counts_of, has_count as has_count_of, has_kinds as has_kinds_of, held_by as held_by_of, is_argument as argument, is_char_operand as char_operand, is_equality as equality, is_iptr_operand as iptr_operand, is_number_operand as number_operand, is_pptr_operand as pptr_operand, is_ptr_operand as ptr_operand, means_char as char_meant, means_int as int_meant, means_iptr as iptr_meant, means_number as number_meant, means_pointer as pointer_meant, means_pptr as pptr_meant, means_ptr as ptr_meant, points_to as points_to_of, puts as puts_of, receives as receives_of, returns_kind as returns_kind_of, same_pointers as same_pointers_of, takes as takes_of, takes_each as takes_each_of};
 ghost use Rattle.cv_core.specs.Meant.{built_in_kinds as kinds_of_built_in, kinds_of as kinds_of_formals, meant_in as meant_in_of};
 
+use crate::chars::{greatest_char, least_char};
+use crate::names::{BuiltIn, built_in, built_in_answer};
 use crate::program::{AnyOperand, Form, Formal, Operand, Proc, Rel, ResultKind, VarKind};
-use crate::shape::names::{BuiltIn, Meant, built_in, built_in_answer};
+use crate::shape::names::Meant;
 use crate::shape::tables::{Scope, called, meant_in};
 use cv_list::{Bytes, List};
 
@@ -120,13 +122,13 @@ fn is_ptr_operand(s: &Scope, e: &Operand) -> bool
     }
 }
 
-/// A char variable, or a number 0..255.
+/// A char variable, or a number that it can hold.
 fn is_char_operand(s: &Scope, e: &Operand) -> bool
     ensures { result ≡ char_operand s.entry.now.program.now s.entry.now.proc.now e.now }
 {
     match e {
         Operand::Var(x) => means_char(meant_in(s, x)),
-        Operand::Number(z) => *z >= 0 && *z <= 255,
+        Operand::Number(z) => least_char(s.program) <= *z && *z <= greatest_char(s.program),
     }
 }
 
@@ -420,7 +422,13 @@ pub(crate) fn has_kinds(s: &Scope, form: &Form) -> bool
         } => compares(s, left, *rel, right),
         Form::IfByte { p, .. } => is_ptr(s, p),
         Form::Call { into, f, args } => {
-            calls(s, into, args.as_slice(), built_in(f), called(s, f))
+            calls(
+                s,
+                into,
+                args.as_slice(),
+                built_in(f.as_slice()),
+                called(s, f),
+            )
         }
         Form::Return(value) => returns_kind(s, s.proc.answer, value),
     }
@@ -446,7 +454,7 @@ pub(crate) fn has_count(s: &Scope, form: &Form) -> bool
     ensures { result ≡ has_count_of s.entry.now.program.now form.now }
 {
     match form {
-        Form::Call { f, args, .. } => counts(args.as_slice(), built_in(f), called(s, f)),
+        Form::Call { f, args, .. } => counts(args.as_slice(), built_in(f.as_slice()), called(s, f)),
         _ => true,
     }
 }

@@ -4,10 +4,10 @@ ghost use Rattle.std.specs.List.{list_any};
 ghost use Rattle.std.specs.Option.{option_copied};
 ghost use Rattle.cv_core.specs.Named.{calls_unknown as calls_unknown_of, calls_unlisted as calls_unlisted_of, fails as fails_of, fails_in_any as any_fails, fails_in_atom as atom_fails, fails_in_contract as contract_fails, fails_in_form as form_fails, fails_in_item as item_fails, fails_in_lin as lin_fails, fails_in_maybe as maybe_fails, fails_in_maybe_term as maybe_term_fails, fails_in_operand as operand_fails, fails_in_pointer as pointer_fails, fails_in_term as term_fails, fails_in_value as value_fails, mentions_unknown as mentions_unknown_of, mentions_unlisted as mentions_unlisted_of, names_unknown as names_unknown_of, names_unlisted as names_unlisted_of, uses_unlisted as uses_unlisted_of};
 
+use crate::names::{BuiltIn, built_in};
 use crate::program::{
     AnyOperand, Atom, Contract, Form, Item, LinPart, Operand, Proc, PtrTerm, Term,
 };
-use crate::shape::names::{BuiltIn, built_in};
 use crate::shape::tables::{Scope, called, is_global, is_listed, meant_in, mentioned_in};
 use cv_list::{Bytes, List};
 
@@ -305,7 +305,7 @@ fn calls_unknown(s: &Scope, form: &Form) -> bool
 {
     match form {
         Form::Call { f, .. } => {
-            let built = built_in(f).is_none();
+            let built = built_in(f.as_slice()).is_none();
             let other = called(s, f).is_none();
             built && other
         }
@@ -330,7 +330,7 @@ fn calls_unlisted(s: &Scope, form: &Form) -> bool
     ensures { result ≡ calls_unlisted_of s.entry.now.program.now s.entry.now.proc.now form.now }
 {
     match form {
-        Form::Call { f, .. } => uses_unlisted(s, built_in(f), called(s, f)),
+        Form::Call { f, .. } => uses_unlisted(s, built_in(f.as_slice()), called(s, f)),
         _ => false,
     }
 }

@@ -1,15 +1,14 @@
 //! The rules that are tested at each place of a program, in their order.
 ghost use Rattle.std.specs.Prelude.{◌≡◌, ◌≤◌, length, slice_get};
 ghost use Rattle.std.specs.List.{list_any};
-ghost use Rattle.cv_core.specs.Headings.{is_main as main_name};
-ghost use Rattle.cv_core.specs.Names.{stmts_of as stmts_in};
 ghost use Rattle.cv_core.specs.Shape.{calls_main as calls_main_of, contract_tests as contract_tests_of, end_tests as end_tests_of, global_tests as global_tests_of, has_body as has_body_of, has_main as has_main_of, heading_tests as heading_tests_of, is_within as within, jumps_within as jumps_within_of, literal_tests as literal_tests_of, local_tests as local_tests_of, may_end as may_end_of, standing, statement_tests as statement_tests_of, test as test_of};
 
 use crate::faults::ShapeRule;
-use crate::program::{Form, Proc, Program, Stmt};
+use crate::names::{is_main, stmts_of};
+use crate::program::{Form, Proc, Program};
 use crate::shape::contracts::contract_formed;
 use crate::shape::doubles::{formal_twice, global_twice, literal_twice, local_twice, proc_twice};
-use crate::shape::headings::{breaks_extern, breaks_main, is_empty_body, is_main};
+use crate::shape::headings::{breaks_extern, breaks_main, is_empty_body};
 use crate::shape::kinds::{has_count, has_kinds};
 use crate::shape::named::{mentions_unknown, mentions_unlisted, names_unknown, names_unlisted};
 use crate::shape::tables::{Names, Scope};
@@ -43,16 +42,6 @@ pub(crate) fn first_standing(tests: &[RuleTest]) -> Option<ShapeRule>
     }
 }
 
-/// The statements of a procedure; none without a body.
-pub(crate) fn stmts_of(f: &Proc) -> &[Stmt]
-    ensures { result.now ≡ stmts_in f.now.body }
-{
-    match &f.body {
-        None => &[],
-        Some(body) => body.stmts.as_slice(),
-    }
-}
-
 fn is_within(f: &Proc, to: u32) -> bool
     ensures { result ≡ within f.now to }
 {
@@ -82,7 +71,7 @@ fn calls_main(form: &Form) -> bool
     ensures { result ≡ calls_main_of form.now }
 {
     match form {
-        Form::Call { f, .. } => is_main(f),
+        Form::Call { f, .. } => is_main(f.as_slice()),
         _ => false,
     }
 }
@@ -173,7 +162,10 @@ pub(crate) fn statement_tests(s: &Scope, last: bool, form: &Form) -> [RuleTest; 
 fn has_main(p: &Program) -> bool
     ensures { result ≡ has_main_of p.now }
 {
-    p.procs.as_slice().iter().any(|f| is_main(&f.name))
+    p.procs
+        .as_slice()
+        .iter()
+        .any(|f| is_main(f.name.as_slice()))
 }
 
 /// The rules at the end of the program.

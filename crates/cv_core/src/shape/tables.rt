@@ -6,8 +6,9 @@ ghost use Rattle.cv_core.specs.Named.{is_listed as listed_in};
 ghost use Rattle.cv_core.specs.Names.{Name, locals_of as locals_in};
 ghost use Rattle.cv_core.specs.Tables.{at_name};
 
+use crate::names::locals_of;
 use crate::program::{Local, Proc, Program};
-use crate::shape::names::{Meant, formal_meant, locals_of, meant_by_global, meant_by_local};
+use crate::shape::names::{Meant, formal_meant, meant_by_global, meant_by_local};
 use cv_list::Bytes;
 use indexmap::IndexMap;
 use std::alloc::{AllocError, Global};

@@ -4,10 +4,11 @@ ghost use Rattle.std.specs.Option.{option_or};
 ghost use Rattle.cv_core.specs.Shape.{body_faults, contract_tests as contract_tests_of, heading_tests as heading_tests_of, local_tests as local_tests_of, fault_number as fault_number_of, faults_at, faults_nowhere, first_fault as first_fault_of, is_last as last_of, proc_faults, procs_faults, statement_tests as statement_tests_of};
 
 use crate::faults::{ShapeFault, ShapeRule};
+use crate::names::stmts_of;
 use crate::program::{Proc, Program, Stmt};
 use crate::shape::rules::{
     RuleTest, contract_tests, end_tests, first_standing, global_tests, heading_tests,
-    literal_tests, local_tests, statement_tests, stmts_of,
+    literal_tests, local_tests, statement_tests,
 };
 use crate::shape::tables::{Names, Scope, names_of, scope_of};
 use std::alloc::{AllocError, Global};

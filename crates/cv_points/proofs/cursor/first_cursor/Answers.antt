@@ -1,7 +1,8 @@
+use Rattle.cv_core.specs.Names.{is_pointer_global}
 use Rattle.std.proofs.Common.{refl, ap, length, ◌∙◌}
 use Rattle.std.specs.List.{filter}
 use Rattle.cv_core.specs.declared.program.Program.{Program}
-use Rattle.cv_points.specs.Holders.{first_holder, is_pointer_global}
+use Rattle.cv_points.specs.Holders.{first_holder}
 use Rattle.cv_points.specs.Walks.{word}
 use Rattle.cv_points.proofs.Cursors.{first_is}
 use Rattle.cv_points.proofs.cursor.first_cursor.Goals as goal

@@ -1,5 +1,5 @@
+use Rattle.cv_core.specs.Names.{is_pointer_global}
 use Rattle.std.proofs.Common.{◌≡◌, ◌++◌, length, map}
-use Rattle.cv_points.specs.Holders.{is_pointer_global}
 use Rattle.cv_points.proofs.places.flag_globals.Given as goal
 
 abbrev pub invariant-loop-rest : goal.invariant-loop-rest

@@ -1,7 +1,6 @@
 use Rattle.std.proofs.Common.{◌≡◌, ◌++◌, length, map}
 use Rattle.std.specs.List.{filter}
-use Rattle.cv_core.specs.Names.{is_object}
-use Rattle.cv_points.specs.Holders.{is_pointer_cell}
+use Rattle.cv_core.specs.Names.{is_object, is_pointer_cell}
 use Rattle.cv_points.proofs.places.flag_locals.Given as goal
 
 abbrev pub invariant-loop-rest : goal.invariant-loop-rest

@@ -1,7 +1,6 @@
 use Rattle.std.proofs.Common.{◌≡◌, ◌++◌, length, map}
 use Rattle.std.specs.List.{flat_map}
-use Rattle.cv_core.specs.Names.{objects_of}
-use Rattle.cv_points.specs.Holders.{is_pointer_cell}
+use Rattle.cv_core.specs.Names.{is_pointer_cell, objects_of}
 use Rattle.cv_points.proofs.places.flag_procs.Given as goal
 
 abbrev pub invariant-loop-rest : goal.invariant-loop-rest

@@ -1,5 +1,5 @@
+use Rattle.cv_core.specs.Names.{is_pointer_global as pointer_global}
 use Rattle.std.proofs.Common.{◌≡◌, ◌+◌, ◌≤◌, map, length}
-use Rattle.cv_points.specs.Holders.{is_pointer_global as pointer_global}
 use Rattle.cv_points.specs.Walks.{walk}
 use Rattle.cv_points.proofs.walk.walk_globals.Given as goal
 

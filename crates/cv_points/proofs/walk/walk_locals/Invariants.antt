@@ -1,7 +1,6 @@
 use Rattle.std.proofs.Common.{◌≡◌, ◌+◌, ◌≤◌, map, length}
 use Rattle.std.specs.List.{filter}
-use Rattle.cv_core.specs.Names.{is_object as object}
-use Rattle.cv_points.specs.Holders.{is_pointer_cell as pointer_cell}
+use Rattle.cv_core.specs.Names.{is_object as object, is_pointer_cell as pointer_cell}
 use Rattle.cv_points.specs.Walks.{walk}
 use Rattle.cv_points.proofs.walk.walk_locals.Given as goal
 

@@ -1,7 +1,6 @@
 use Rattle.std.proofs.Common.{◌≡◌, ◌+◌, ◌≤◌, map, length}
 use Rattle.std.specs.List.{flat_map}
-use Rattle.cv_core.specs.Names.{objects_of}
-use Rattle.cv_points.specs.Holders.{is_pointer_cell as pointer_cell}
+use Rattle.cv_core.specs.Names.{is_pointer_cell as pointer_cell, objects_of}
 use Rattle.cv_points.specs.Walks.{walk}
 use Rattle.cv_points.proofs.walk.walk_objects.Given as goal
 

@@ -1,8 +1,7 @@
 use Rattle.std.proofs.Common.{◌≡◌, ◌+◌, ◌≤◌, length, map}
 use Rattle.std.specs.List.{filter}
 use Rattle.std.specs.Option.{option_map}
-use Rattle.cv_core.specs.Names.{is_object}
-use Rattle.cv_points.specs.Holders.{is_pointer_cell}
+use Rattle.cv_core.specs.Names.{is_object, is_pointer_cell}
 use Rattle.cv_ppts.specs.Setting.{cell_number}
 use Rattle.cv_ppts.proofs.places.cell_number.Given as goal
 

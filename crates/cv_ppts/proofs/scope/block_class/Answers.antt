@@ -1,6 +1,6 @@
+use Rattle.cv_core.specs.Names.{is_pointer_kind}
 use Rattle.std.proofs.Common.{◌∙◌, ap, drop, map}
 use Rattle.std.specs.List.{filter}
-use Rattle.cv_points.specs.Holders.{is_pointer_kind}
 use Rattle.cv_ppts.specs.Entities.{class_of_kind}
 use Rattle.cv_ppts.specs.Keys.{setting}
 use Rattle.cv_ppts.specs.Setting.{class_or, class_with, formal_classes, global_classes, listed}

@@ -1,6 +1,6 @@
+use Rattle.cv_core.specs.Names.{is_pointer_kind}
 use Rattle.std.proofs.Common.{◌≡◌, length, map}
 use Rattle.std.specs.List.{filter}
-use Rattle.cv_points.specs.Holders.{is_pointer_kind}
 use Rattle.cv_ppts.specs.Entities.{class_of_kind}
 use Rattle.cv_ppts.specs.Setting.{class_with}
 use Rattle.cv_ppts.proofs.scope.formal_class.Given as goal

@@ -1,5 +1,5 @@
 use Rattle.std.proofs.Common.{length}
-use Rattle.cv_interp.proofs.slots.+kind_among.Given as goal
+use Rattle.cv_core.proofs.names.+kind_among.Given as goal
 
 abbrev pub decreases-kind_among : goal.decreases-kind_among
 decreases-kind_among l = length l.formals.now
