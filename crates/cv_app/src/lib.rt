@@ -9,7 +9,6 @@ mod check;
 mod core_tests;
 mod ended;
 mod fault;
-mod halt;
 mod input;
 mod numbers;
 mod print_command;
