@@ -1,6 +1,7 @@
 pub mod BuiltLemmas
 pub mod CheckLemmas
-pub mod Decisions
+pub mod Hindered
+pub mod OneAnswer
 pub mod Outcomes
 pub mod FileLemmas
 pub mod ServedLemmas

@@ -1,31 +1,16 @@
 -- What is served is the one answer of a command.
-use Rattle.std.proofs.Common.{Bool, true, false, nat_eq, if◌then◌else◌, codes, ◌≡◌, ◌≢◌, ℕ, ◌⊎◌, List, [], ◌∷◌, Option, None, Some, IfSome, refl, sym, ◌∙◌, ap, subst, rules, arith, inl, inr}
+use Rattle.std.proofs.Common.{Bool, true, false, nat_eq, if◌then◌else◌, codes, ◌≡◌, ◌≢◌, ℕ, List, [], ◌∷◌, Option, None, Some, IfSome, refl, sym, ◌∙◌, ap, subst, rules, arith, inl, inr}
 use Rattle.cv_io.specs.Files.{Files}
 use Rattle.cv_io.specs.Streams.{Appends}
 use Rattle.cv_app.specs.declared.served.Served.{Served}
 use Rattle.std.specs.Str.{bytes_eq}
-use Rattle.cv_app.specs.Commands.{Command, Check, Core, Run, Unknown, IsTold, run_command, command_of}
+use Rattle.cv_app.specs.Commands.{Command, Check, Core, Run, Unknown, run_command, command_of}
 use Rattle.cv_app.specs.Numbers.{steps_of}
-use Rattle.cv_app.specs.Core.{Cores}
-use Rattle.cv_app.specs.Answers.{Answers}
-use Rattle.cv_app.specs.Sinks.{IsSettled, Answered, Becomes, Writes}
+use Rattle.cv_app.specs.Answers.{Answers, IsTold}
+use Rattle.cv_app.specs.Sinks.{IsSettled, Answered, Becomes, ServedOf, PrintsBy, Writes}
 use Rattle.cv_app.specs.Sinks as sinks
-use Rattle.cv_app.proofs.CheckLemmas.{one_check}
-use Rattle.cv_app.proofs.FileLemmas.{core_found, one_found}
-use Rattle.cv_app.proofs.RunLemmas.{one_run}
-
--- ---- a command has one answer
-
-one_core : (files : Files) (file : List ℕ) (answer other : Served) → Cores files file answer → Cores files file other → other ≡ answer
-one_core files file answer other c d =
-    let only = (core_found files file c.found (one_found files file c.found c.gives)).only in
-    only other d ∙ sym c.is
-
-one_answer : (files : Files) (command : Command) (answer other : Served) → IsTold command → Answers (Some files) command answer → Answers (Some files) command other → other ≡ answer
-one_answer files (Check file cert) answer other t h k = one_check files file cert other answer k h
-one_answer files (Core file) answer other t h k = one_core files file answer other h k
-one_answer files (Run file steps words input) answer other t h k = one_run files file steps words input answer other t h k
-one_answer files Unknown answer other t h k = k ∙ sym h
+use Rattle.cv_app.proofs.OneAnswer.{one_answer, Exactly}
+use Rattle.cv_app.proofs.Outcomes.{whole_prefix}
 
 abbrev served_of : ℕ → List ℕ → List ℕ → Served
 served_of status out errs = record { status = status; out = out; errs = errs }
@@ -39,7 +24,7 @@ same_served served answer e o (inl w) =
 same_served served answer e o (inr cut) = absurd (grind arith)
 
 -- what was served is the answer that was given
-given_served : (files : Files) (command : Command) (served answer : Served) → IsTold command → Answers (Some files) command answer → served.status ≡ answer.status →
+given_served : (files : Files) (command : Command) (served answer : Served) → IsTold files command → Answers (Some files) command answer → served.status ≡ answer.status →
     Answered (Some files) command served.status (Some []) (Some served.out) (Some []) (Some served.errs) 0 0 → served ≡ answer
 given_served files command served answer t h same given = same_served served given.answer given.status_is given.printed given.refused ∙ one_answer files command answer given.answer t h given.is
 
@@ -56,42 +41,55 @@ same_number m n e = grind arith
 other_number : (m n : ℕ) → nat_eq m n ≡ false → m ≢ n
 other_number m n e same = absurd (grind arith)
 
+-- the same of what is equal
+pub exactly_at : (told : Option Files) (command command' : Command) (status : ℕ) (out out' sink sink' : Option (List ℕ)) → Exactly told command status out out' →
+    command ≡ command' → out ≡ sink → out' ≡ sink' → Exactly told command' status sink sink'
+exactly_at told command command' status out out' sink sink' h c o o' =
+    subst (λ (x : Option (List ℕ)). Exactly told command' status sink x) o'
+    (subst (λ (x : Option (List ℕ)). Exactly told command' status x out') o (subst (λ (x : Command). Exactly told x status out out') c h))
+
+same_text : (text : List ℕ) → Some text ≡ Some [] → text ≡ []
+same_text text e = cc
+
 pub served_exactly : (told : Option Files) (command : Command) (served : Served) → served.status ≢ 6 →
     (IsSettled served.status → Answered told command served.status (Some []) (Some served.out) (Some []) (Some served.errs) 0 0) →
-    (IsTold command → IfSome told (λ files. (answer : Served) → Answers (Some files) command answer → Becomes answer served.status (Some []) (Some served.out))) →
-    IsTold command → IfSome told (λ files. (answer : Served) → Answers (Some files) command answer → (served ≡ answer) ⊎ ((served.status ≡ 5) ⊎ (served.status ≡ 7)))
-served_exactly None command served quiet answered exactly t = search rules
-served_exactly (Some files) command served quiet answered exactly t = λ answer h. by_fate answer h (exactly t answer h) (nat_eq served.status 5) (nat_eq served.status 7) refl refl
+    Exactly told command served.status (Some []) (Some served.out) → PrintsBy command served.status (Some []) (Some served.out) → ((files : Files) → IsTold files command) →
+    IfSome told (λ files. (answer : Served) → Answers (Some files) command answer → ServedOf answer served)
+served_exactly None command served quiet answered exactly prints known = search rules
+served_exactly (Some files) command served quiet answered exactly prints known =
+    λ answer h. by_fate answer h (exactly (known files) answer h) (nat_eq served.status 5) (nat_eq served.status 7) refl refl
   where
     by_fate : (answer : Served) → Answers (Some files) command answer → Becomes answer served.status (Some []) (Some served.out) → (five seven : Bool) → nat_eq served.status 5 ≡ five → nat_eq served.status 7 ≡ seven →
-        (served ≡ answer) ⊎ ((served.status ≡ 5) ⊎ (served.status ≡ 7))
-    by_fate answer h (sinks.ReadFault s o) five seven e f = inr (inl s)
+        ServedOf answer served
+    by_fate answer h (sinks.ReadFault s o) five seven e f = sinks.LoadFault s (same_text served.out o)
     by_fate answer h (sinks.WriteFault a s o) five seven e f = absurd (quiet s)
-    by_fate answer h (sinks.NoMemory s o) five seven e f = inr (inr s)
-    by_fate answer h (sinks.Given s o) true seven e f = inr (inl (same_number served.status 5 e))
-    by_fate answer h (sinks.Given s o) false true e f = inr (inr (same_number served.status 7 f))
+    by_fate answer h (sinks.NoMemory s o) five seven e f = sinks.OutOfMemory s o
+    by_fate answer h (sinks.Given s o) true seven e f =
+        let here = same_number served.status 5 e in
+        sinks.LoadFault here (same_text served.out (prints.nothing (omega (arith, here)) (omega (arith, here))))
+    by_fate answer h (sinks.Given s o) false true e f = sinks.OutOfMemory (same_number served.status 7 f) (whole_prefix (Some []) (Some served.out) answer.out o)
     by_fate answer h (sinks.Given s o) false false e f =
-        inl (given_served files command served answer t h s (answered (record { no_read_fault = other_number served.status 5 e; no_write_fault = quiet; memory = other_number served.status 7 f })))
+        sinks.AllServed (given_served files command served answer (known files) h s (answered (record { no_read_fault = other_number served.status 5 e; no_write_fault = quiet; memory = other_number served.status 7 f })))
 
 -- ---- the input is told
 
-told_core : (named : Bool) (file : List ℕ) → IsTold (if named then Core file else Unknown)
-told_core true file = tt
-told_core false file = tt
+told_core : (files : Files) (named : Bool) (file : List ℕ) → IsTold files (if named then Core file else Unknown)
+told_core files true file = tt
+told_core files false file = tt
 
-told_run : (named : Bool) (input file : List ℕ) (steps : Option ℕ) (args : List (List ℕ)) → IsTold (if named then run_command (Some input) file steps args else Unknown)
-told_run false input file steps args = tt
-told_run true input file None args = tt
-told_run true input file (Some steps) args = search rules
+told_run : (files : Files) (named : Bool) (input file : List ℕ) (steps : Option ℕ) (args : List (List ℕ)) → IsTold files (if named then run_command (Some input) file steps args else Unknown)
+told_run files false input file steps args = tt
+told_run files true input file None args = tt
+told_run files true input file (Some steps) args = λ reads. search rules
 
-told_check : (named other : Bool) (input file cert : List ℕ) → IsTold (if named then Check file cert else (if other then run_command (Some input) file (steps_of cert) [] else Unknown))
-told_check true other input file cert = tt
-told_check false other input file cert = told_run other input file (steps_of cert) []
+told_check : (files : Files) (named other : Bool) (input file cert : List ℕ) → IsTold files (if named then Check file cert else (if other then run_command (Some input) file (steps_of cert) [] else Unknown))
+told_check files true other input file cert = tt
+told_check files false other input file cert = told_run files other input file (steps_of cert) []
 
 -- a command over an input that is told
-pub told_command : (input : List ℕ) (words : List (List ℕ)) → IsTold (command_of (Some input) words)
-told_command input [] = tt
-told_command input (name ∷ []) = tt
-told_command input (name ∷ file ∷ []) = told_core (bytes_eq name (codes "core")) file
-told_command input (name ∷ file ∷ cert ∷ []) = told_check (bytes_eq name (codes "check")) (bytes_eq name (codes "run")) input file cert
-told_command input (name ∷ file ∷ steps ∷ arg ∷ args) = told_run (bytes_eq name (codes "run")) input file (steps_of steps) (arg ∷ args)
+pub told_command : (input : List ℕ) (words : List (List ℕ)) (files : Files) → IsTold files (command_of (Some input) words)
+told_command input [] files = tt
+told_command input (name ∷ []) files = tt
+told_command input (name ∷ file ∷ []) files = told_core files (bytes_eq name (codes "core")) file
+told_command input (name ∷ file ∷ cert ∷ []) files = told_check files (bytes_eq name (codes "check")) (bytes_eq name (codes "run")) input file cert
+told_command input (name ∷ file ∷ steps ∷ arg ∷ args) files = told_run files (bytes_eq name (codes "run")) input file (steps_of steps) (arg ∷ args)

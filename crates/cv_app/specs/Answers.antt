@@ -1,14 +1,14 @@
 -- What each command answers, and what it may print.
-use Rattle.std.specs.Prelude.{◌≡◌, ℕ, ◌⊎◌, List, Option, IfSome}
+use Rattle.std.specs.Prelude.{◌≡◌, ℕ, ◌⊎◌, List, Option, IfSome, IsSome}
 use Rattle.cv_io.specs.Counts.{Rose}
 use Rattle.cv_io.specs.Files.{Files}
 use Rattle.cv_app.specs.declared.served.Served.{Served}
 use Rattle.cv_app.specs.Commands.{Command, Check, Core, Run, Unknown}
-use Rattle.cv_app.specs.Texts.{usage_text, no_memory_text}
+use Rattle.cv_app.specs.Texts.{usage_text}
 use Rattle.cv_app.specs.Served.{refused}
-use Rattle.cv_app.specs.Check.{Checks, CheckPrints, CheckRefuses}
-use Rattle.cv_app.specs.Core.{Cores, CorePrints, CoreRefuses}
-use Rattle.cv_app.specs.Runs.{Runs, HasOtherWords, RunEnds, RunRefuses}
+use Rattle.cv_app.specs.Check.{Checks, CheckPrints, IsTreated}
+use Rattle.cv_app.specs.Core.{Cores, CorePrints}
+use Rattle.cv_app.specs.Runs.{Runs, HasOtherWords, ReadsInput, RunEnds}
 
 -- the answer where no device fails and memory suffices, over a store that tells its content
 abbrev pub Answers : Option Files → Command → Served → Type 0
@@ -29,19 +29,28 @@ abbrev pub Ends : Command → ℕ → List ℕ → Type 0
 Ends (Run file steps words input) status text = (out : List ℕ) × RunEnds steps status out text
 Ends command status text = ⊥
 
--- the lines that a command may put on standard error with a status
-abbrev pub Refuses : Command → ℕ → List ℕ → Type 0
-Refuses (Check file cert) status text = CheckRefuses file status text
-Refuses (Core file) status text = CoreRefuses file status text
-Refuses (Run file steps words input) status text = RunRefuses file status text
-Refuses Unknown status text = ((status ≡ 2) × (text ≡ usage_text)) ⊎ ((status ≡ 7) × (text ≡ no_memory_text))
+-- ---- the order of refusals, where the store tells its content
 
--- the count of a name that the command loads rose
-abbrev pub LoadFailed : Command → (List ℕ → ℕ) → (List ℕ → ℕ) → Type 0
-LoadFailed (Check file cert) before after = Rose (before file) (after file) ⊎ Rose (before cert) (after cert)
-LoadFailed (Core file) before after = Rose (before file) (after file)
-LoadFailed (Run file steps words input) before after = Rose (before file) (after file)
-LoadFailed Unknown before after = ⊥
+-- the command comes to load CERT: FILE gives a program that is treated
+abbrev pub LoadsCert : Option Files → List ℕ → Type 0
+LoadsCert told file = IfSome told (λ files. IsTreated files file)
+
+-- The count of a name rose that the command loads, when it comes to that: that of FILE, or that of CERT.
+abbrev pub LoadFailed : Option Files → Command → (List ℕ → ℕ) → (List ℕ → ℕ) → Type 0
+LoadFailed told (Check file cert) before after = Rose (before file) (after file) ⊎ (LoadsCert told file × Rose (before cert) (after cert))
+LoadFailed told (Core file) before after = Rose (before file) (after file)
+LoadFailed told (Run file steps words input) before after = Rose (before file) (after file)
+LoadFailed told Unknown before after = ⊥
+
+-- the command comes to read standard input
+abbrev pub ReadsIn : Option Files → Command → Type 0
+ReadsIn told (Run file steps words input) = IfSome told (λ files. ReadsInput files file words)
+ReadsIn told command = ⊥
+
+-- where the command comes to read standard input, its bytes are told
+abbrev pub IsTold : Files → Command → Type 0
+IsTold files (Run file steps words input) = ReadsInput files file words → IsSome input
+IsTold files command = Unit {0}
 
 -- the count of a stream that only `run` uses so rose
 abbrev pub RunFailed : Command → ℕ → ℕ → Type 0

@@ -1,5 +1,5 @@
 -- The commands of the program, as its words spell them.
-use Rattle.std.specs.Prelude.{ℕ, List, [], ◌∷◌, Option, Some, None, codes, if◌then◌else◌, map, Vec, IsSome}
+use Rattle.std.specs.Prelude.{ℕ, List, [], ◌∷◌, Option, Some, None, codes, if◌then◌else◌, map, Vec}
 use Rattle.std.specs.declared.alloc.Global.{Global}
 use Rattle.std.specs.Str.{bytes_eq}
 use Rattle.cv_app.specs.Numbers.{steps_of}
@@ -33,11 +33,6 @@ command_of input words = Unknown
 abbrev pub IsRun : Command → Type 0
 IsRun (Run file steps args input) = Unit {0}
 IsRun command = ⊥
-
--- where the command reads standard input, its bytes are told
-abbrev pub IsTold : Command → Type 0
-IsTold (Run file steps args input) = IsSome input
-IsTold command = Unit {0}
 
 -- the words as contracts see them
 abbrev pub words_of : List (Vec ℕ Global) → List (List ℕ)

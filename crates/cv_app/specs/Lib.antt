@@ -8,12 +8,11 @@ pub mod Core
 pub mod Answers
 pub mod Sinks
 pub mod Faults
+pub mod Refusals
 pub mod Decided
 pub mod Requests
 pub mod Numbers
-pub mod Halts
 pub mod Calls
 pub mod Ends
 pub mod Args
 pub mod Runs
-pub mod RunDecided

@@ -1,5 +1,6 @@
 -- What `run FILE STEPS ARG..` answers, where no device fails and memory suffices.
-use Rattle.std.specs.Prelude.{◌≡◌, ℕ, ◌<◌, ◌≤◌, ◌⊎◌, List, [], length, Bool, true, false, Option, Some, None, IfSome, IsSomeAnd, Result, Ok, Err}
+use Rattle.std.specs.Prelude.{◌≡◌, ℕ, ◌<◌, ◌≤◌, List, [], length, Bool, true, false, Option, Some, None, IfSome, IsSomeAnd, Result, Ok, Err}
+use Rattle.cv_core.specs.declared.faults.LimitName.TheVariants as limit
 use Rattle.cv_core.specs.declared.program.Program.{Program}
 use Rattle.cv_meaning.specs.declared.ends.Arg.{Arg}
 use Rattle.cv_meaning.specs.declared.memory.World.{World}
@@ -10,11 +11,10 @@ use Rattle.cv_io.specs.Files.{Files}
 use Rattle.cv_app.specs.declared.served.Served.{Served}
 use Rattle.cv_app.specs.Args.{args_of}
 use Rattle.cv_app.specs.Calls.{reads_input}
-use Rattle.cv_app.specs.Core.{FileRefuses}
 use Rattle.cv_app.specs.Ends.{end_status, end_text}
 use Rattle.cv_app.specs.Programs.{FileGives}
 use Rattle.cv_app.specs.Served.{refused}
-use Rattle.cv_app.specs.Texts.{usage_text, input_limit_text, read_fault_text, write_fault_text, no_memory_text}
+use Rattle.cv_app.specs.Texts.{usage_text, limit_text}
 
 -- the arguments that the words give main
 abbrev pub args_for : Program → List (List ℕ) → Option (List Arg)
@@ -41,7 +41,7 @@ IsInput false told input = input ≡ []
 pub data ProgramRuns (P : Program) (steps : ℕ) (words : List (List ℕ)) (told : Option (List ℕ)) (answer : Served) : Type 0 where
   OtherWords : args_for P words ≡ None → answer ≡ refused 2 usage_text → ProgramRuns P steps words told answer
   InputTooLong : (args : List Arg) → args_for P words ≡ Some args → reads_input P ≡ true → IfSome told (λ bytes. 1048576 < length bytes) →
-      answer ≡ refused 4 input_limit_text → ProgramRuns P steps words told answer
+      answer ≡ refused 4 (limit_text limit.Input) → ProgramRuns P steps words told answer
   Ended : (args : List Arg) (input : List ℕ) → args_for P words ≡ Some args → IsInput (reads_input P) told input →
       answer ≡ run_served P steps (ends P steps args input) → ProgramRuns P steps words told answer
 
@@ -55,18 +55,17 @@ pub record HasOtherWords (files : Files) (file : List ℕ) (words : List (List �
   pub gives : FileGives files file (Ok program)
   pub other : args_for program words ≡ None
 
+-- The file gives a program, the words are main's, and some statement calls getchar: the run comes to read its input.
+pub record ReadsInput (files : Files) (file : List ℕ) (words : List (List ℕ)) : Type 0 where
+  pub program : Program
+  pub gives : FileGives files file (Ok program)
+  pub args : List Arg
+  pub mains : args_for program words ≡ Some args
+  pub reads : reads_input program ≡ true
+
 -- the output that it may print with a status, and the line of the end
 pub record RunEnds (steps status : ℕ) (out line : List ℕ) : Type 0 where
   pub program : Program
   pub args : List Arg
   pub input : List ℕ
   pub is : record { status = status; out = out; errs = line } ≡ run_served program steps (ends program steps args input)
-
--- the lines that it may put on standard error where the run isn't begun, or a device or memory fails
-abbrev pub RunRefuses : List ℕ → ℕ → List ℕ → Type 0
-RunRefuses file status text = FileRefuses file status text
-    ⊎ ((status ≡ 2) × (text ≡ usage_text))
-    ⊎ ((status ≡ 4) × (text ≡ input_limit_text))
-    ⊎ ((status ≡ 5) × (text ≡ read_fault_text))
-    ⊎ ((status ≡ 6) × (text ≡ write_fault_text))
-    ⊎ ((status ≡ 7) × (text ≡ no_memory_text))

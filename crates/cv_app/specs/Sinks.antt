@@ -1,12 +1,17 @@
 -- What a call with a status leaves in the sinks, where they tell their contents.
-use Rattle.std.specs.Prelude.{◌≡◌, ◌≢◌, ℕ, ◌≤◌, ◌⊎◌, List, Option}
+use Rattle.std.specs.Prelude.{◌≡◌, ◌≢◌, ℕ, ◌≤◌, ◌⊎◌, List, [], Option, Some}
 use Rattle.cv_io.specs.Counts.{Rose}
 use Rattle.cv_io.specs.Files.{Files}
 use Rattle.cv_io.specs.Streams.{Appends, AppendsPrefix}
 use Rattle.cv_app.specs.declared.served.Served.{Served}
 use Rattle.cv_app.specs.Commands.{Command, IsRun}
 use Rattle.cv_app.specs.Texts.{write_fault_text, no_memory_text}
-use Rattle.cv_app.specs.Answers.{Answers, Prints, Ends, Refuses}
+use Rattle.cv_app.specs.Answers.{Answers, Prints, Ends}
+use Rattle.cv_app.specs.Refusals.{Refuses}
+
+-- a device has what it had: its content, where it tells it, and its count
+abbrev pub IsUntouched : Option (List ℕ) → Option (List ℕ) → ℕ → ℕ → Type 0
+IsUntouched before after faults faults' = (after ≡ before) × (faults' ≡ faults)
 
 -- neither a fault of a device nor want of memory came between
 pub record IsSettled (status : ℕ) : Type 0 where
@@ -78,6 +83,13 @@ pub data Becomes (answer : Served) (status : ℕ) (out out' : Option (List ℕ))
   ReadFault : status ≡ 5 → out' ≡ out → Becomes answer status out out'
   WriteFault : IsEnding answer.status → status ≡ 6 → AppendsPrefix out answer.out out' → Becomes answer status out out'
   NoMemory : status ≡ 7 → AppendsPrefix out answer.out out' → Becomes answer status out out'
+
+-- What became of an answer over devices that never fail: it is served, or a load failed and nothing was printed, or
+-- memory ran out, and some bytes from the front of its text were printed.
+pub data ServedOf (answer served : Served) : Type 0 where
+  AllServed : served ≡ answer → ServedOf answer served
+  LoadFault : served.status ≡ 5 → served.out ≡ [] → ServedOf answer served
+  OutOfMemory : served.status ≡ 7 → AppendsPrefix (Some []) answer.out (Some served.out) → ServedOf answer served
 
 -- Standard output: an answer is printed whole, a refusal and a fault of reading print nothing, and a fault of writing or
 -- want of memory may cut the text of an answer short.

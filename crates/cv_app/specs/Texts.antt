@@ -70,18 +70,6 @@ limit_text limit.Variables = line (codes "limit variables 200")
 limit_text limit.Transitions = line (codes "limit transitions 256")
 limit_text limit.Templates = line (codes "limit templates 2500")
 
-abbrev pub nesting_limit_text : List ℕ
-nesting_limit_text = limit_text limit.Nesting
-
-abbrev pub file_limit_text : List ℕ
-file_limit_text = limit_text limit.File
-
-abbrev pub certificate_limit_text : List ℕ
-certificate_limit_text = limit_text limit.Certificate
-
-abbrev pub input_limit_text : List ℕ
-input_limit_text = limit_text limit.Input
-
 abbrev pub read_fault_text : List ℕ
 read_fault_text = line (codes "read fault")
 

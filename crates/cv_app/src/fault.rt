@@ -29,22 +29,14 @@ pub enum Fault {
     /// The first fault of the text of the file is on this line, from 1.
     #[error("fault text at line {line}")]
     Text { line: u32 },
-    /// A contract of the file opens more than 100 levels.
-    #[error("limit nesting")]
-    Nesting,
-    /// The program of the file passes a limit.
+    /// A limit is passed: by the bytes of the file, of the certificate or of the input, by the levels of a contract, or by
+    /// a count of the program.
     #[error("limit")]
     Limit(LimitName),
     /// A fault of shape stands in the program of the file.
     #[error("fault of shape")]
     Shape(ShapeFault),
-    /// The file has more than 1048576 bytes.
-    #[error("limit file")]
-    FileLimit,
-    /// The certificate has more than 268435456 bytes.
-    #[error("limit certificate")]
-    CertificateLimit,
-    /// A load failed.
+    /// A load failed, or a read of the input.
     #[error("read fault")]
     Read,
     /// Want of memory.
@@ -90,8 +82,8 @@ fn rule_name(rule: ShapeRule) -> &'static [u8]
     }
 }
 
-/// The line of a limit that a program passes: its name and its value.
-pub(crate) fn limit_line(which: LimitName) -> &'static [u8]
+/// The line of a limit that is passed: its name and its value.
+fn limit_line(which: LimitName) -> &'static [u8]
     ensures { result.now ≡ limit_text which }
 {
     match which {
@@ -149,10 +141,7 @@ pub(crate) fn report<E: Sink>(alloc: Global, errs: &mut E, file: &[u8], fault: F
         Fault::NotBuilt { line } => report_fault(alloc, errs, file, line, b"NotBuilt"),
         Fault::Text { line } => report_fault(alloc, errs, file, line, b"text"),
         Fault::Shape(found) => report_fault(alloc, errs, file, found.line, rule_name(found.rule)),
-        Fault::Nesting => refuse(errs, 4, limit_line(LimitName::Nesting)),
         Fault::Limit(which) => refuse(errs, 4, limit_line(which)),
-        Fault::FileLimit => refuse(errs, 4, limit_line(LimitName::File)),
-        Fault::CertificateLimit => refuse(errs, 4, limit_line(LimitName::Certificate)),
         Fault::Read => refuse(errs, 5, b"read fault\n"),
         Fault::Memory => refuse(errs, 7, NO_MEMORY),
     }

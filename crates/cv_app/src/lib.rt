@@ -7,7 +7,6 @@ mod args;
 mod check;
 mod ended;
 mod fault;
-mod halt;
 mod input;
 mod numbers;
 mod print_command;

@@ -1,23 +1,23 @@
 //! The command `run FILE STEPS ARG..`.
-ghost use Rattle.std.specs.Prelude.{◌≡◌, ◌≢◌, ◌≤◌, ◌⊎◌, ℕ, List, Option, All, IfOk, IfErr, IfSome, IsSome, IsTrue, Some, None, Ok, Err, true, codes, slice_get, option_and_then};
+ghost use Rattle.std.specs.Prelude.{◌≡◌, ◌≢◌, ◌≤◌, ◌⊎◌, ℕ, List, Option, All, IfOk, IfErr, IfSome, IsTrue, Some, None, Ok, Err, true, codes, slice_get, option_and_then};
 ghost use Rattle.cv_core.specs.Limits.{first_limit};
 ghost use Rattle.cv_core.specs.Names.{place_of};
 ghost use Rattle.cv_core.specs.WellFormed.{IsSoundProgram};
 ghost use Rattle.cv_interp.specs.Start.{are_mains, formals_of, main_of, HasFewBytes};
 ghost use Rattle.cv_io.specs.Counts.{Rose};
 ghost use Rattle.cv_app.specs.declared.served.Served.{Served as Answer};
-ghost use Rattle.cv_app.specs.Answers.{Answers, IsUsage};
+ghost use Rattle.cv_app.specs.Answers.{Answers, IsTold, IsUsage, ReadsIn};
 ghost use Rattle.cv_app.specs.Commands.{Run, words_of};
 ghost use Rattle.cv_app.specs.Calls.{reads_input as reads};
-ghost use Rattle.cv_app.specs.Halts.{InputRefused};
-ghost use Rattle.cv_app.specs.RunDecided.{IsRunAnswer, IsRunHalt, UnlessHalted, run_outcome};
+ghost use Rattle.cv_app.specs.Decided.{run_outcome};
+ghost use Rattle.cv_app.specs.Faults.{InputRefused, UnlessHindered};
+ghost use Rattle.cv_app.specs.Refusals.{MayRefuse};
 ghost use Rattle.cv_app.specs.Runs.{IsInput, HasOtherWords, RunEnds, run_served, ends};
-ghost use Rattle.cv_app.specs.Sinks.{IsSettled, IsEnding, Answered, RunAnswered, Becomes, PrintsBy, RefusesBy};
+ghost use Rattle.cv_app.specs.Sinks.{IsSettled, IsEnding, IsUntouched, Answered, RunAnswered, Becomes, PrintsBy, RefusesBy};
 
 use crate::args::args_of;
 use crate::ended::{end_line, end_status, print_end};
-use crate::fault::Fault;
-use crate::halt::{Halt, report_halt};
+use crate::fault::{Fault, report};
 use crate::input::read_input;
 use crate::program::program_of_file;
 use crate::reads::reads_input;
@@ -82,7 +82,9 @@ fn run_program(
     };
     let mut machine = match Machine::start(alloc, program, args, world) {
         Ok(machine) => machine,
-        Err(StartError::Args | StartError::Memory) => return Err(Fault::Memory),
+        Err(StartError::Memory) => return Err(Fault::Memory),
+        // The arguments are main's.
+        Err(StartError::Args) => unreachable!(),
     };
     let end = machine.run(u64::from(steps))?;
     Ok(Served {
@@ -93,10 +95,12 @@ fn run_program(
 }
 
 /// The input of a run of the program: all that is left in the source where some statement calls getchar, else nothing.
-fn input_of<I: Source>(alloc: Global, program: &Program, input: &mut I) -> Result<Vec<u8>, Halt>
+fn input_of<I: Source>(alloc: Global, program: &Program, input: &mut I) -> Result<Vec<u8>, Fault>
     ensures is { IfOk result (λ bytes. IsInput (reads program.now) (I.content input.old) bytes.items) }
     ensures asked { IfErr result (λ _. reads program.now ≡ true) }
     ensures refused { IfErr result (InputRefused (I.content input.old) (I.faults input.old) (I.faults input.new)) }
+    ensures untouched { (reads program.now ≡ true)
+        ⊎ IsUntouched (I.content input.old) (I.content input.new) (I.faults input.old) (I.faults input.new) }
 {
     if reads_input(program) {
         read_input(alloc, input)
@@ -113,19 +117,23 @@ fn run_file<S: Store, I: Source>(
     file: &[u8],
     steps: u32,
     words: &[Vec<u8>],
-) -> Result<Served, Halt>
-    ensures answer { IfSome (S.content store.old) (λ files. UnlessHalted result
-        (IsRunAnswer files file.now steps (words_of words.now) (I.content input.old) (run_outcome file.now result))) }
+) -> Result<Served, Fault>
+    ensures answer { UnlessHindered result (Answers (S.content store.old) (Run file.now steps (words_of words.now) (I.content input.old)) (run_outcome file.now result)) }
     ensures ended { IfOk result (λ served. RunEnds steps served.status served.out served.errs) }
-    ensures halts { IfErr result IsRunHalt }
-    ensures usage { result ≡ Err (Halt.OfFault Fault.Usage) → IfSome (S.content store.old) (λ files. HasOtherWords files file.now (words_of words.now)) }
-    ensures read_fault { result ≡ Err (Halt.OfFault Fault.Read) →
+    ensures faults { IfErr result (MayRefuse (Run file.now steps (words_of words.now) (I.content input.old))) }
+    ensures usage { result ≡ Err Fault.Usage → IfSome (S.content store.old) (λ files. HasOtherWords files file.now (words_of words.now)) }
+    ensures read_fault { result ≡ Err Fault.Read →
         Rose (S.reading_faults store.old file.now) (S.reading_faults store.new file.now) ⊎ Rose (I.faults input.old) (I.faults input.new) }
+    ensures read_place { result ≡ Err Fault.Read →
+        Rose (S.reading_faults store.old file.now) (S.reading_faults store.new file.now)
+        ⊎ ReadsIn (S.content store.old) (Run file.now steps (words_of words.now) (I.content input.old)) }
+    ensures input { ReadsIn (S.content store.old) (Run file.now steps (words_of words.now) (I.content input.old))
+        ⊎ IsUntouched (I.content input.old) (I.content input.new) (I.faults input.old) (I.faults input.new) }
     ensures unchanged { S.content store.new ≡ S.content store.old }
 {
     let program = program_of_file(alloc, store, file)?;
     let Some(args) = args_of(alloc, main_formals(&program), words)? else {
-        return Err(Halt::OfFault(Fault::Usage));
+        return Err(Fault::Usage);
     };
     let bytes = input_of(alloc, &program, input)?;
     let served = run_program(alloc, &program, &args, bytes, steps)?;
@@ -147,20 +155,22 @@ pub(crate) fn run<S: Store, I: Source, O: Sink, E: Sink>(
         (O.content out.old) (O.content out.new) (E.content errs.old) (E.content errs.new) (E.faults errs.old) (E.faults errs.new) }
     ensures ended { IsEnding result → RunAnswered (S.content store.old) (Run file.now steps (words_of words.now) (I.content input.old)) result
         (O.content out.old) (O.content out.new) (E.content errs.old) (E.content errs.new) }
-    ensures exactly { IsSome (I.content input.old) → IfSome (S.content store.old) (λ files. (answer : Answer) →
+    ensures exactly { IfSome (S.content store.old) (λ files. IsTold files (Run file.now steps (words_of words.now) (I.content input.old)) → (answer : Answer) →
         Answers (Some files) (Run file.now steps (words_of words.now) (I.content input.old)) answer → Becomes answer result (O.content out.old) (O.content out.new)) }
     ensures status { result ≤ 8 }
     ensures usage { result ≡ 2 → IsUsage (S.content store.old) (Run file.now steps (words_of words.now) (I.content input.old)) }
     ensures read_fault { result ≡ 5 → Rose (S.reading_faults store.old file.now) (S.reading_faults store.new file.now)
-        ⊎ Rose (I.faults input.old) (I.faults input.new) }
+        ⊎ (ReadsIn (S.content store.old) (Run file.now steps (words_of words.now) (I.content input.old)) × Rose (I.faults input.old) (I.faults input.new)) }
     ensures write_fault { result ≡ 6 → Rose (O.faults out.old) (O.faults out.new) ⊎ Rose (E.faults errs.old) (E.faults errs.new) }
     ensures unchanged { S.content store.new ≡ S.content store.old }
+    ensures input { ReadsIn (S.content store.old) (Run file.now steps (words_of words.now) (I.content input.old))
+        ⊎ IsUntouched (I.content input.old) (I.content input.new) (I.faults input.old) (I.faults input.new) }
     ensures out { PrintsBy (Run file.now steps (words_of words.now) (I.content input.old)) result (O.content out.old) (O.content out.new) }
     ensures errs { RefusesBy (Run file.now steps (words_of words.now) (I.content input.old)) result (E.content errs.old) (E.content errs.new)
         (E.faults errs.old) (E.faults errs.new) }
 {
     match run_file(alloc, store, input, file, steps, words) {
         Ok(served) => print_end(out, errs, &served),
-        Err(halt) => report_halt(alloc, errs, file, halt),
+        Err(fault) => report(alloc, errs, file, fault),
     }
 }

@@ -31,3 +31,4 @@ pub mod Outward
 pub mod Taking
 pub mod Passed
 pub mod Planned
+pub mod Starts

@@ -1,6 +1,7 @@
 -- Where a run of main begins: the values of its formals, and the memory.
-use Rattle.std.specs.Prelude.{ℕ, ◌+◌, ◌≤◌, ◌≡◌, Bool, true, false, ◌&&◌, List, [], ◌∷◌, ◌++◌, length, replicate, slice_get, Option, Some, None, pos, codes}
+use Rattle.std.specs.Prelude.{ℕ, ◌+◌, ◌<◌, ◌≤◌, ◌≡◌, All, Bool, IsTrue, true, false, ◌&&◌, List, [], ◌∷◌, ◌++◌, length, replicate, slice_get, Option, Some, None, pos, codes}
 use Rattle.std.specs.Option.{option_and_then}
+use Rattle.cv_core.specs.Grammar.{IsWritten}
 use Rattle.cv_core.specs.Names.{place_of}
 use Rattle.cv_core.specs.declared.program.Program.{Program}
 use Rattle.cv_core.specs.declared.program.Proc.{Proc}
@@ -18,7 +19,9 @@ use Rattle.cv_meaning.specs.declared.memory.Ptr.TheVariants.{Null, At}
 use Rattle.cv_meaning.specs.declared.memory.Value.{Value}
 use Rattle.cv_meaning.specs.declared.memory.Value.TheVariants as value
 use Rattle.cv_meaning.specs.Memory.{Memory}
-use Rattle.cv_meaning.specs.Clean.{literal_objects}
+use Rattle.cv_meaning.specs.Clean.{IsInt, IsStart, literal_objects}
+use Rattle.cv_meaning.specs.Run.{main_frame}
+use Rattle.cv_meaning.specs.State.{Frame}
 use Rattle.cv_interp.specs.declared.begin.StartError.{StartError}
 use Rattle.cv_interp.specs.declared.begin.StartError.TheVariants as refusal
 
@@ -90,3 +93,15 @@ start_values P args = arg_values (length P.globals + length P.literals) args
 abbrev pub IsRefusal : Program → List Arg → StartError → Type 0
 IsRefusal P args refusal.Args = are_mains P args ≡ false
 IsRefusal P args refusal.Memory = Unit {0}
+
+-- ---- the start states of the definition of a clean program
+
+-- an int in its range, or at most 1048576 bytes
+abbrev pub IsGiven : Arg → Type 0
+IsGiven (arg.Int z) = IsInt z
+IsGiven (arg.Text bytes) = All (λ b. b < 256) bytes × (length bytes ≤ 1048576)
+
+-- what a run starts with is one of the start states over which a clean program is defined
+abbrev pub StartsAsDefined : Type 0
+StartsAsDefined = (P : Program) (args : List Arg) (f : Frame) → IsWritten P → IsTrue (are_mains P args) → All IsGiven args →
+    main_frame P (start_values P args) (start_memory P args) ≡ Some f → IsStart P f.proc.formals (start_memory P args) (start_values P args)

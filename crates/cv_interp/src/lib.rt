@@ -6,6 +6,7 @@ mod calls;
 mod cells;
 mod entering;
 mod items;
+mod laws;
 mod leaving;
 mod machine;
 mod objects;
@@ -18,4 +19,5 @@ mod world;
 
 pub use begin::StartError;
 pub use cv_meaning::{Arg, RunEnd};
+pub use laws::start_law;
 pub use machine::{Machine, Turn};

@@ -1,14 +1,21 @@
 -- The worked runs, computed.
-use Rattle.std.specs.Prelude.{ℕ, ◌≡◌, refl, Bool, true, false, List, [], ◌∷◌, codes, Option, Some, None, ℤ, pos, negsuc}
+use Rattle.std.proofs.Common.{sym, subst}
+use Rattle.std.proofs.lemmas.List.Elements.{All-nil}
+use Rattle.std.specs.Prelude.{ℕ, ◌≡◌, ◌<◌, refl, Bool, true, false, List, [], ◌∷◌, codes, Option, Some, None, ℤ, pos, negsuc}
 use Rattle.cv_core.specs.declared.faults.ErrKind.TheVariants as err
 use Rattle.cv_core.specs.declared.program.Item.TheVariants as item
 use Rattle.cv_core.specs.declared.program.PtrTerm.TheVariants as pointer
 use Rattle.cv_meaning.specs.declared.memory.Value.TheVariants as value
 use Rattle.cv_meaning.specs.Contract.{global_fits}
 use Rattle.cv_meaning.specs.Step.{step}
-use Rattle.cv_meaning.specs.Call.{call}
-use Rattle.cv_meaning.specs.Run.{End, Stopped, Error, Returned, run_main, run, run_within, one_step, turn}
-use Rattle.cv_meaning.specs.Worked.{RunsEnd, number_of, output_of, world, quiet, stores_at, reads_behind, returns_local, adds, counts_down, calls_on, stores_literal, hi, stores_global, two_bytes, stores_unasked, loads_null, compares_wild, allocates, echoes, asks, skips}
+use Rattle.cv_core.specs.declared.program.Form.TheVariants as form
+use Rattle.cv_core.specs.declared.program.Operand.TheVariants as operand
+use Rattle.cv_core.specs.declared.program.ResultKind.TheVariants as answer
+use Rattle.cv_meaning.specs.Clean.{IsInt, IsOut, IsStart, IsWorld, IsError}
+use Rattle.cv_meaning.specs.State.{Frame}
+use Rattle.cv_meaning.specs.Call.{call, may_enter, entered}
+use Rattle.cv_meaning.specs.Run.{End, Stopped, Error, Returned, run_main, main_frame, run, run_within, one_step, turn}
+use Rattle.cv_meaning.specs.Worked.{RunsEnd, StoresPastItsBuffer, at, b, buf, no_contract, p, proc, ptr, returns_number, number_of, output_of, world, quiet, stores_at, reads_behind, returns_local, adds, counts_down, calls_on, stores_literal, hi, stores_global, two_bytes, stores_unasked, loads_null, compares_wild, allocates, echoes, asks, skips}
 
 last_byte_is : number_of (run_main 4 (stores_at (pos 3)) [] [] quiet) ≡ Some (pos 0)
 unfolding run_main run run_within one_step turn step call global_fits
@@ -129,6 +136,26 @@ enough_room_is = refl
 too_little_room_is : run_main 100 (skips 4) [] [] quiet ≡ Error err.Requires 0 16 []
 unfolding run_main run run_within one_step turn step call global_fits
 too_little_room_is = refl
+
+-- the frame of main of that program
+abbrev past_frame : Frame
+past_frame = entered (stores_at (pos 4)) 0 (proc 1 answer.Int (codes "main") [] no_contract (buf b 4 ∷ ptr p ∷ [])
+    (at 2 (form.Address p b) ∷ at 3 (form.Shift p p (operand.Number (pos 4))) ∷ at 4 (form.Store p (operand.Number (pos 0))) ∷ at 5 (returns_number (pos 0)) ∷ [])) [] []
+
+past_begins : main_frame (stores_at (pos 4)) [] [] ≡ Some past_frame
+past_begins = refl
+
+past_enters : may_enter (stores_at (pos 4)) past_frame ≡ true
+past_enters = refl
+
+past_starts : IsStart (stores_at (pos 4)) past_frame.proc.formals [] []
+past_starts = record { globals = []; outs = []; is = refl; are_globals = tt; are_outs = All-nil IsOut; are_args = tt }
+
+quiet_world : IsWorld quiet
+quiet_world = record { input = All-nil (λ b. b < 256); fresh = All-nil IsInt; answers = All-nil IsInt }
+
+pub not_clean : StoresPastItsBuffer
+not_clean clean = clean.never_errs 100 [] [] quiet past_frame past_begins past_starts quiet_world past_enters (subst IsError (sym past_the_end_is) tt)
 
 pub runs_end : RunsEnd
 runs_end = record {

@@ -39,6 +39,7 @@ use Rattle.cv_meaning.specs.declared.memory.Body.TheVariants.{Buffer, Cell}
 use Rattle.cv_meaning.specs.declared.memory.Ptr.TheVariants.{Null, Wild, At}
 use Rattle.cv_meaning.specs.declared.memory.World.{World}
 use Rattle.cv_meaning.specs.declared.memory.Value.TheVariants as value
+use Rattle.cv_meaning.specs.Clean.{Clean}
 use Rattle.cv_meaning.specs.Run.{End, Stopped, Error, Returned, run_main}
 
 -- ---- shorthands
@@ -307,3 +308,9 @@ pub record RunsEnd : Type 0 where
   pub extern_out_of_range : number_of (run_main 9 asks [] [] (world [] [] [] (pos 9 ∷ []))) ≡ Some (negsuc 2)
   pub enough_room : number_of (run_main 100 (skips 5) [] [] quiet) ≡ Some (pos 0)
   pub too_little_room : run_main 100 (skips 4) [] [] quiet ≡ Error err.Requires 0 16 []
+
+-- ---- a program that isn't clean
+
+-- it stores past the end of its buffer
+abbrev pub StoresPastItsBuffer : Type 0
+StoresPastItsBuffer = Clean (stores_at (pos 4)) → ⊥

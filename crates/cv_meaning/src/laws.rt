@@ -1,5 +1,5 @@
 ghost use Rattle.cv_meaning.specs.Laws.{LargerBoundsAgree, RunsByStep, ErrorsStay, ReturnsStay};
-ghost use Rattle.cv_meaning.specs.Worked.{RunsEnd};
+ghost use Rattle.cv_meaning.specs.Worked.{RunsEnd, StoresPastItsBuffer};
 
 /// A larger bound of the run's recursion changes nothing: only the number of steps counts.
 #[tactic(auto, using(crate::proofs::Bounds::larger_bounds_agree))]
@@ -25,4 +25,10 @@ pub fn end_law()
 #[tactic(auto, using(crate::proofs::Worked::runs_end))]
 pub fn worked_runs()
     ensures { RunsEnd }
+{}
+
+/// A program that stores past the end of its buffer isn't clean.
+#[tactic(auto, using(crate::proofs::Worked::not_clean))]
+pub fn unclean_law()
+    ensures { StoresPastItsBuffer }
 {}

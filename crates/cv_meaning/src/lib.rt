@@ -14,6 +14,6 @@ pub use access::{first_zero, load, shift, store};
 pub use clauses::{Part, holds};
 pub use contract::term_value;
 pub use ends::{Arg, RunEnd};
-pub use laws::{bound_law, end_law, step_by_step_law, worked_runs};
+pub use laws::{bound_law, end_law, step_by_step_law, unclean_law, worked_runs};
 pub use memory::{Body, NamedValue, Object, Permit, Ptr, Value, View, World};
 pub use objects::Mem;

@@ -1,45 +1,49 @@
-use Rattle.std.proofs.Common.{ℕ, List, Some, IfSome, refl, inl, inr, lit≤, subst}
-use Rattle.cv_app.specs.declared.served.Served.{Served}
-use Rattle.cv_app.specs.Answers.{Answers}
-use Rattle.cv_app.specs.Commands.{Command, Unknown, IsTold, words_of}
-use Rattle.cv_app.specs.Served.{refused}
-use Rattle.cv_app.specs.Sinks.{Answered, Becomes, RefusesBy}
-use Rattle.cv_app.specs.Texts.{usage_text}
-use Rattle.cv_app.proofs.Outcomes.{answered_reported, refuses_reported}
+use Rattle.std.proofs.Common.{Bool, ◌⊎◌, refl, subst}
+use Rattle.cv_app.specs.declared.fault.Fault.TheVariants.{Usage}
+use Rattle.cv_app.specs.Answers.{ReadsIn}
+use Rattle.cv_app.specs.Commands.{Command, Unknown, words_of}
+use Rattle.cv_app.specs.Sinks.{IsUntouched, Answered, RefusesBy}
+use Rattle.cv_app.proofs.OneAnswer.{Exactly}
+use Rattle.cv_app.proofs.Outcomes.{refused_so}
 use Rattle.cv_app.proofs.WordLemmas.{clean_file, no_core, no_run}
 use Rattle.cv_app.proofs.app.cssv.Goals as goal
 
 pub returns-in-Check-clause-exactly : goal.returns-in-Check-clause-exactly
-returns-in-Check-clause-exactly g c = λ _.
-    subst (λ (command : Command). IfSome (g.S.Store.content c.args.store.now) (λ files. (answer : Served) → Answers (Some files) command answer →
-    Becomes answer c.check.result (g.O.Sink.content c.args.out.now) (g.O.Sink.content c.check.new.out)))
-    (c.in-Check.ensures (g.I.Source.content c.args.input.now)) c.check.ensures.exactly
+returns-in-Check-clause-exactly g c =
+    subst (λ (command : Command). Exactly (g.S.Store.content c.args.store.now) command c.check.result (g.O.Sink.content c.args.out.now) (g.O.Sink.content c.check.new.out)) (c.in-Check.ensures (g.I.Source.content c.args.input.now))
+    c.check.ensures.exactly
 
 pub returns-in-Core-clause-exactly : goal.returns-in-Core-clause-exactly
-returns-in-Core-clause-exactly g c = λ _.
-    subst (λ (command : Command). IfSome (g.S.Store.content c.args.store.now) (λ files. (answer : Served) → Answers (Some files) command answer →
-    Becomes answer c.print_command.result (g.O.Sink.content c.args.out.now) (g.O.Sink.content c.print_command.new.out)))
-    (c.in-Core.ensures (g.I.Source.content c.args.input.now)) c.print_command.ensures.exactly
+returns-in-Core-clause-exactly g c =
+    subst (λ (command : Command). Exactly (g.S.Store.content c.args.store.now) command c.print_command.result (g.O.Sink.content c.args.out.now) (g.O.Sink.content c.print_command.new.out)) (c.in-Core.ensures (g.I.Source.content c.args.input.now))
+    c.print_command.ensures.exactly
 
 pub returns-in-Run-clause-exactly : goal.returns-in-Run-clause-exactly
 returns-in-Run-clause-exactly g c =
-    subst (λ (command : Command). IsTold command → IfSome (g.S.Store.content c.args.store.now) (λ files. (answer : Served) → Answers (Some files) command answer →
-    Becomes answer c.run.result (g.O.Sink.content c.args.out.now) (g.O.Sink.content c.run.new.out)))
-    (c.in-Run.ensures (g.I.Source.content c.args.input.now)) c.run.ensures.exactly
+    subst (λ (command : Command). Exactly (g.S.Store.content c.args.store.now) command c.run.result (g.O.Sink.content c.args.out.now) (g.O.Sink.content c.run.new.out)) (c.in-Run.ensures (g.I.Source.content c.args.input.now))
+    c.run.ensures.exactly
+
+pub returns-in-Run-clause-input : goal.returns-in-Run-clause-input
+returns-in-Run-clause-input g c =
+    subst (λ (command : Command). ReadsIn (g.S.Store.content c.args.store.now) command ⊎ IsUntouched (g.I.Source.content c.args.input.now) (g.I.Source.content c.run.new.input) (g.I.Source.faults c.args.input.now) (g.I.Source.faults c.run.new.input))
+    (c.in-Run.ensures (g.I.Source.content c.args.input.now)) c.run.ensures.input
 
 pub returns-in-Unknown-clause-answered : goal.returns-in-Unknown-clause-answered
 returns-in-Unknown-clause-answered g c = λ calm.
     subst (λ (command : Command). Answered (g.S.Store.content c.args.store.now) command c.report.result (g.O.Sink.content c.args.out.now) (g.O.Sink.content c.args.out.now)
     (g.E.Sink.content c.args.errs.now) (g.E.Sink.content c.report.new.errs) (g.E.Sink.faults c.args.errs.now) (g.E.Sink.faults c.report.new.errs)) (c.in-Unknown.ensures (g.I.Source.content c.args.input.now))
-    (answered_reported (g.S.Store.content c.args.store.now) Unknown (refused 2 usage_text) c.report.result (g.O.Sink.content c.args.out.now) (g.O.Sink.content c.args.out.now)
-    (g.E.Sink.content c.args.errs.now) (g.E.Sink.content c.report.new.errs) (g.E.Sink.faults c.args.errs.now) (g.E.Sink.faults c.report.new.errs) refl refl refl c.report.ensures calm)
+    ((refused_so Bool (g.S.Store.content c.args.store.now) Unknown Usage c.report.result (g.O.Sink.content c.args.out.now) (g.E.Sink.content c.args.errs.now) (g.E.Sink.content c.report.new.errs) (g.E.Sink.faults c.args.errs.now) (g.E.Sink.faults c.report.new.errs) tt refl c.report.ensures).answered calm)
+
+pub returns-in-Unknown-clause-exactly : goal.returns-in-Unknown-clause-exactly
+returns-in-Unknown-clause-exactly g c =
+    subst (λ (command : Command). Exactly (g.S.Store.content c.args.store.now) command c.report.result (g.O.Sink.content c.args.out.now) (g.O.Sink.content c.args.out.now)) (c.in-Unknown.ensures (g.I.Source.content c.args.input.now))
+    (refused_so Bool (g.S.Store.content c.args.store.now) Unknown Usage c.report.result (g.O.Sink.content c.args.out.now) (g.E.Sink.content c.args.errs.now) (g.E.Sink.content c.report.new.errs) (g.E.Sink.faults c.args.errs.now) (g.E.Sink.faults c.report.new.errs) tt refl c.report.ensures).exactly
 
 pub returns-in-Unknown-clause-errs : goal.returns-in-Unknown-clause-errs
 returns-in-Unknown-clause-errs g c =
     subst (λ (command : Command). RefusesBy command c.report.result (g.E.Sink.content c.args.errs.now) (g.E.Sink.content c.report.new.errs)
     (g.E.Sink.faults c.args.errs.now) (g.E.Sink.faults c.report.new.errs)) (c.in-Unknown.ensures (g.I.Source.content c.args.input.now))
-    (refuses_reported Unknown (refused 2 usage_text) c.report.result (g.E.Sink.content c.args.errs.now) (g.E.Sink.content c.report.new.errs)
-    (g.E.Sink.faults c.args.errs.now) (g.E.Sink.faults c.report.new.errs) (lit≤ tt) (lit≤ tt) (inl (refl, refl)) (inr (refl, refl)) c.report.ensures)
+    (refused_so Bool (g.S.Store.content c.args.store.now) Unknown Usage c.report.result (g.O.Sink.content c.args.out.now) (g.E.Sink.content c.args.errs.now) (g.E.Sink.content c.report.new.errs) (g.E.Sink.faults c.args.errs.now) (g.E.Sink.faults c.report.new.errs) tt refl c.report.ensures).refuses
 
 pub returns-in-Check-clause-headline : goal.returns-in-Check-clause-headline
 returns-in-Check-clause-headline g c = λ file cert words zero.

@@ -1,5 +1,6 @@
-use Rattle.std.proofs.Common.{rules}
+use Rattle.std.proofs.Common.{rules, arith, refl}
 use Rattle.std.proofs.lemmas.Result.{err_from_is_err_and}
+use Rattle.cv_app.specs.Programs.{CText}
 use Rattle.cv_app.proofs.FileLemmas.{given_refused, given_formed}
 use Rattle.cv_app.proofs.program.program_of_bytes.Goals as goal
 
