@@ -24,7 +24,7 @@ use Rattle.cv_meaning.specs.declared.memory.Ptr.TheVariants.{Null, At}
 use Rattle.cv_meaning.specs.declared.memory.Value.{Value}
 use Rattle.cv_meaning.specs.declared.memory.Value.TheVariants as value
 use Rattle.cv_meaning.specs.Call.{entered}
-use Rattle.cv_meaning.specs.Clean.{AreArgs, AreGlobals, IsArg, IsInt, IsOut, IsOuter, IsStart, literal_objects}
+use Rattle.cv_meaning.specs.Clean.{AreArgs, AreBytes, AreGlobals, IsArg, IsInt, IsOut, IsOuter, IsStart, literal_objects}
 use Rattle.cv_meaning.specs.Clean as clean
 use Rattle.cv_meaning.specs.Memory.{Memory}
 use Rattle.cv_meaning.specs.Run.{frame_of, main_frame}
@@ -34,11 +34,13 @@ use Rattle.cv_interp.proofs.Begun.{start_length}
 
 -- ---- the globals
 
+zeros_made : (n : ℕ) (bytes : List ℕ) → bytes ≡ replicate n 0 → n < 2 ^ 31 → AreBytes bytes × (length bytes ≡ n)
+zeros_made n bytes e few =
+    let long : length bytes ≡ n = ap (λ (bs : List ℕ). length bs) e ∙ length-replicate n 0 in
+    ((subst (All (λ b. b < 256)) (sym e) (All-replicate (λ b. b < 256) n 0 (omega arith)), subst (λ k. k < 2 ^ 31) (sym long) few), long)
+
 global_made : (outer : Ptr → Type 0) → outer Null → (g : GlobalBody) → grammar.IsGlobalBody g → clean.IsGlobalBody outer g (global_body g)
-global_made outer null (global.Buffer n) h =
-    let long : length (replicate n 0) ≡ n = length-replicate n 0 in
-    let size = h.1 in
-    ((All-replicate (λ b. b < 256) n 0 (omega arith), omega arith), long)
+global_made outer null (global.Buffer n) h = zeros_made n (replicate n 0) refl h.1
 global_made outer null global.Pointer h = null
 global_made outer null global.Int h = (search rules, search rules)
 
