@@ -1,5 +1,5 @@
 -- What a run starts with is a start state of the definition of a clean program.
-use Rattle.std.proofs.Common.{ℕ, zero, suc, ◌+◌, ◌<◌, ◌≤◌, ◌≡◌, ◌^◌, Bool, true, false, IsTrue, ◌&&◌, List, [], ◌∷◌, ◌++◌, length, replicate, All, Option, None, Some, ℤ, refl, sym, ap, ◌∙◌, subst, arith, rules, append_assoc}
+use Rattle.std.proofs.Common.{ℕ, zero, suc, ◌+◌, ◌<◌, ◌≤◌, ◌≡◌, ◌^◌, Bool, true, false, IsTrue, ◌&&◌, List, [], ◌∷◌, ◌++◌, length, replicate, All, Option, None, Some, ℤ, refl, sym, ap, ◌∙◌, lit<, subst, arith, rules, append_assoc}
 use Rattle.std.specs.Prelude.{slice_get, codes}
 use Rattle.std.specs.Option.{option_and_then}
 use Rattle.std.proofs.lemmas.List.{length-append, length-replicate}
@@ -24,7 +24,7 @@ use Rattle.cv_meaning.specs.declared.memory.Ptr.TheVariants.{Null, At}
 use Rattle.cv_meaning.specs.declared.memory.Value.{Value}
 use Rattle.cv_meaning.specs.declared.memory.Value.TheVariants as value
 use Rattle.cv_meaning.specs.Call.{entered}
-use Rattle.cv_meaning.specs.Clean.{AreArgs, AreGlobals, IsArg, IsInt, IsOut, IsOuter, IsStart, literal_objects}
+use Rattle.cv_meaning.specs.Clean.{AreArgs, AreBytes, AreGlobals, IsArg, IsInt, IsOut, IsOuter, IsStart, literal_objects}
 use Rattle.cv_meaning.specs.Clean as clean
 use Rattle.cv_meaning.specs.Memory.{Memory}
 use Rattle.cv_meaning.specs.Run.{frame_of, main_frame}
@@ -34,11 +34,14 @@ use Rattle.cv_interp.proofs.Begun.{start_length}
 
 -- ---- the globals
 
+zeros_are : (n : ℕ) → n < 2 ^ 31 → AreBytes (replicate n 0) × (length {A = ℕ} (replicate n 0) ≡ n)
+zeros_are n few =
+    let zeros : List ℕ = replicate n 0 in
+    let long : length zeros ≡ n = length-replicate n 0 in
+    ((All-replicate (λ b. b < 256) n 0 (lit< tt), subst (λ (k : ℕ). k < 2 ^ 31) (sym long) few), long)
+
 global_made : (outer : Ptr → Type 0) → outer Null → (g : GlobalBody) → grammar.IsGlobalBody g → clean.IsGlobalBody outer g (global_body g)
-global_made outer null (global.Buffer n) h =
-    let long : length (replicate n 0) ≡ n = length-replicate n 0 in
-    let size = h.1 in
-    ((All-replicate (λ b. b < 256) n 0 (omega arith), omega arith), long)
+global_made outer null (global.Buffer n) h = zeros_are n h.1
 global_made outer null global.Pointer h = null
 global_made outer null global.Int h = (search rules, search rules)
 
