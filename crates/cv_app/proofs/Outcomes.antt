@@ -449,7 +449,6 @@ faults_end answer status out out' o o' errs errs' e e' ending (sinks.NoMemoryFor
 faults_end answer status out out' o o' errs errs' e e' ending (sinks.NoMemoryForLine s p w) =
     (λ h. absurd (omega (arith, s)), omega (arith, s), λ h. absurd (omega (arith, s)), λ h. absurd (omega (arith, s)))
 
-
 pub record EndedSo (told : Option Files) (command : Command) (status : ℕ) (out out' : Option (List ℕ)) (o o' : ℕ) (errs errs' : Option (List ℕ)) (e e' : ℕ) : Type 0 where
   pub answered : IsSettled status → Answered told command status out out' errs errs' e e'
   pub exactly : Exactly told command status out out'

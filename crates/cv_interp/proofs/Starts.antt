@@ -1,5 +1,5 @@
 -- What a run starts with is a start state of the definition of a clean program.
-use Rattle.std.proofs.Common.{ℕ, zero, suc, ◌+◌, ◌<◌, ◌≤◌, ◌≡◌, ◌^◌, Bool, true, false, IsTrue, ◌&&◌, List, [], ◌∷◌, ◌++◌, length, replicate, All, Option, None, Some, ℤ, refl, sym, ap, ◌∙◌, subst, arith, rules, append_assoc}
+use Rattle.std.proofs.Common.{ℕ, zero, suc, ◌+◌, ◌<◌, ◌≤◌, ◌≡◌, ◌^◌, Bool, true, false, IsTrue, ◌&&◌, List, [], ◌∷◌, ◌++◌, length, replicate, All, Option, None, Some, ℤ, refl, sym, ap, ◌∙◌, lit<, subst, arith, rules, append_assoc}
 use Rattle.std.specs.Prelude.{slice_get, codes}
 use Rattle.std.specs.Option.{option_and_then}
 use Rattle.std.proofs.lemmas.List.{length-append, length-replicate}
@@ -34,22 +34,26 @@ use Rattle.cv_interp.proofs.Begun.{start_length}
 
 -- ---- the globals
 
-zeros_made : (n : ℕ) (bytes : List ℕ) → bytes ≡ replicate n 0 → n < 2 ^ 31 → AreBytes bytes × (length bytes ≡ n)
-zeros_made n bytes e few =
-    let long : length bytes ≡ n = ap (λ (bs : List ℕ). length bs) e ∙ length-replicate n 0 in
-    ((subst (All (λ b. b < 256)) (sym e) (All-replicate (λ b. b < 256) n 0 (omega arith)), subst (λ k. k < 2 ^ 31) (sym long) few), long)
+zeros_are : (n : ℕ) → n < 2 ^ 31 → AreBytes (replicate n 0) × (length {A = ℕ} (replicate n 0) ≡ n)
+zeros_are n few =
+    let zeros : List ℕ = replicate n 0 in
+    let long : length zeros ≡ n = length-replicate n 0 in
+    ((All-replicate (λ b. b < 256) n 0 (lit< tt), subst (λ (k : ℕ). k < 2 ^ 31) (sym long) few), long)
 
 global_made : (outer : Ptr → Type 0) → outer Null → (g : GlobalBody) → grammar.IsGlobalBody g → clean.IsGlobalBody outer g (global_body g)
-global_made outer null (global.Buffer n) h = zeros_made n (replicate n 0) refl h.1
+global_made outer null (global.Buffer n) h = zeros_are n h.1
 global_made outer null global.Pointer h = null
 global_made outer null global.Int h = (search rules, search rules)
 
 globals_made : (outer : Ptr → Type 0) → outer Null → (site : ℕ) (gs : List GlobalDecl) → All (λ g. IsName g.name × grammar.IsGlobalBody g.body) gs →
     AreGlobals outer site gs (global_objects site gs)
 globals_made outer null site [] h = tt
-globals_made outer null site (g ∷ gs) h =
-    (refl, refl, global_made outer null g.body (All-head (λ (d : GlobalDecl). IsName d.name × grammar.IsGlobalBody d.body) g gs h).1,
-    globals_made outer null (site + 1) gs (All-tail (λ (d : GlobalDecl). IsName d.name × grammar.IsGlobalBody d.body) g gs h))
+globals_made outer null site (g ∷ gs) h = (
+  refl,
+  refl,
+  global_made outer null g.body (All-head (λ (d : GlobalDecl). IsName d.name × grammar.IsGlobalBody d.body) g gs h).1,
+  globals_made outer null (site + 1) gs (All-tail (λ (d : GlobalDecl). IsName d.name × grammar.IsGlobalBody d.body) g gs h),
+)
 
 -- ---- the texts
 
@@ -78,7 +82,7 @@ get_at (y ∷ front) x rest = get_at front x rest
 pointed : (base : ℕ) (m front : Memory) (bytes : List ℕ) (rest : Memory) (next : ℕ) → m ≡ front ++ text_object bytes ∷ rest → length front ≡ next → base ≤ next → IsOuter base m (At next 0)
 pointed base m front bytes rest next is long low =
     let there : slice_get m next ≡ Some (text_object bytes) =
-        ap (λ (l : Memory). slice_get l next) is ∙ ap (λ (n : ℕ). slice_get (front ++ text_object bytes ∷ rest) n) (sym long) ∙ get_at front (text_object bytes) rest in
+    ap (λ (l : Memory). slice_get l next) is ∙ ap (λ (n : ℕ). slice_get (front ++ text_object bytes ∷ rest) n) (sym long) ∙ get_at front (text_object bytes) rest in
     (low, text_object bytes, there, omega arith)
 
 both : (a b : Bool) → IsTrue (a && b) → (a ≡ true) × IsTrue b
@@ -99,16 +103,18 @@ values_given [] [] base next m front fits given is long low = tt
 values_given [] (a ∷ args) base next m front fits given is long low = absurd (search rules)
 values_given (f ∷ fs) [] base next m front fits given is long low = absurd (search rules)
 values_given (f ∷ fs) (arg.Int z ∷ args) base next m front fits given is long low =
-    let parts = both (fits_kind f.kind (arg.Int z)) (fit fs args) fits in
-    (int_given (IsOuter base m) f.kind z parts.0 (All-head IsGiven (arg.Int z) args given),
-    values_given fs args base next m front parts.1 (All-tail IsGiven (arg.Int z) args given) is long low)
+    let parts = both (fits_kind f.kind (arg.Int z)) (fit fs args) fits in (
+      int_given (IsOuter base m) f.kind z parts.0 (All-head IsGiven (arg.Int z) args given),
+      values_given fs args base next m front parts.1 (All-tail IsGiven (arg.Int z) args given) is long low,
+    )
 values_given (f ∷ fs) (arg.Text bytes ∷ args) base next m front fits given is long low =
     let parts = both (fits_kind f.kind (arg.Text bytes)) (fit fs args) fits in
     let more : length (front ++ text_object bytes ∷ []) ≡ next + 1 = length-append front (text_object bytes ∷ []) ∙ ap (λ (n : ℕ). n + 1) long in
-    let grown : base ≤ next + 1 = omega (arith, low) in
-    (text_given (IsOuter base m) f.kind bytes (At next 0) parts.0 (pointed base m front bytes (out_objects args) next is long low),
-    values_given fs args base (next + 1) m (front ++ text_object bytes ∷ []) parts.1 (All-tail IsGiven (arg.Text bytes) args given)
-    (is ∙ sym (append_assoc front (text_object bytes ∷ []) (out_objects args))) more grown)
+    let grown : base ≤ next + 1 = omega (arith, low) in (
+      text_given (IsOuter base m) f.kind bytes (At next 0) parts.0 (pointed base m front bytes (out_objects args) next is long low),
+      values_given fs args base (next + 1) m (front ++ text_object bytes ∷ []) parts.1 (All-tail IsGiven (arg.Text bytes) args given)
+          (is ∙ sym (append_assoc front (text_object bytes ∷ []) (out_objects args))) more grown,
+    )
 
 -- ---- main
 
@@ -127,7 +133,7 @@ starts_as_defined P args f written fits given frame =
     let base : ℕ = length P.globals + length P.literals in
     let long : length front ≡ base = start_length P front (1 + length P.globals) refl in
     let main : f.proc.formals ≡ formals_of (main_of P) =
-        frame_formals P (start_values P args) (start_memory P args) f (place_of (λ g. g.name) (codes "main") P.procs) frame in
+    frame_formals P (start_values P args) (start_memory P args) f (place_of (λ g. g.name) (codes "main") P.procs) frame in
     record {
       globals = global_objects 1 P.globals;
       outs = out_objects args;

@@ -33,7 +33,7 @@ returns-in-Ok-clause-errs g c =
 pub returns-in-Err : goal.returns-in-Err
 returns-in-Err g c =
     let f = refused_so (Vec ℕ Global) (g.S.Store.content c.args.store.now) (Core c.args.file.now) c.in-Err.fault c.report.result (g.O.Sink.content c.args.out.now) (g.E.Sink.content c.args.errs.now) (g.E.Sink.content c.report.new.errs) (g.E.Sink.faults c.args.errs.now) (g.E.Sink.faults c.report.new.errs)
-        c.in-Err.ensures.faults c.in-Err.ensures.answer c.report.ensures in
+    c.in-Err.ensures.faults c.in-Err.ensures.answer c.report.ensures in
     record {
       answered = f.answered;
       exactly = f.exactly;

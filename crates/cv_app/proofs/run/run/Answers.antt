@@ -13,8 +13,8 @@ stopped_by fault = Err fault
 pub returns-in-Ok : goal.returns-in-Ok
 returns-in-Ok g c =
     let f = ended_so (g.S.Store.content c.args.store.now) (Run c.args.file.now c.args.steps (words_of c.args.words.now) (g.I.Source.content c.args.input.now)) c.in-Ok.served c.print_end.result (g.O.Sink.content c.args.out.now) (g.O.Sink.content c.print_end.new.out) (g.O.Sink.faults c.args.out.now) (g.O.Sink.faults c.print_end.new.out) (g.E.Sink.content c.args.errs.now) (g.E.Sink.content c.print_end.new.errs) (g.E.Sink.faults c.args.errs.now) (g.E.Sink.faults c.print_end.new.errs)
-        tt tt (is_ending c.args.steps c.in-Ok.served c.in-Ok.ensures.ended) (c.in-Ok.served.errs, c.in-Ok.ensures.ended) (c.in-Ok.served.out, c.in-Ok.ensures.ended)
-        c.in-Ok.ensures.answer c.print_end.ensures in
+    tt tt (is_ending c.args.steps c.in-Ok.served c.in-Ok.ensures.ended) (c.in-Ok.served.errs, c.in-Ok.ensures.ended) (c.in-Ok.served.out, c.in-Ok.ensures.ended)
+    c.in-Ok.ensures.answer c.print_end.ensures in
     record {
       answered = f.answered;
       ended = f.ended;
@@ -32,7 +32,7 @@ returns-in-Ok g c =
 pub returns-in-Err : goal.returns-in-Err
 returns-in-Err g c =
     let f = refused_so Served (g.S.Store.content c.args.store.now) (Run c.args.file.now c.args.steps (words_of c.args.words.now) (g.I.Source.content c.args.input.now)) c.in-Err.fault c.report.result (g.O.Sink.content c.args.out.now) (g.E.Sink.content c.args.errs.now) (g.E.Sink.content c.report.new.errs) (g.E.Sink.faults c.args.errs.now) (g.E.Sink.faults c.report.new.errs)
-        c.in-Err.ensures.faults c.in-Err.ensures.answer c.report.ensures in
+    c.in-Err.ensures.faults c.in-Err.ensures.answer c.report.ensures in
     record {
       answered = f.answered;
       ended = f.ended;
