@@ -118,6 +118,10 @@ fn turned(m: &mut Machine) -> Result<Turn, AllocError> {
     m.step()
 }
 
+fn has_printed(m: &Machine, text: &str) -> bool {
+    m.output() == text.as_bytes()
+}
+
 // ---- how runs end
 
 const NULL_LOADED: RunEnd = RunEnd::Error {
@@ -252,7 +256,7 @@ fn is_as_said(alloc: Global, row: &Run) -> Result<bool, Fail> {
     let world = world(alloc, row.input, row.allocations)?;
     let mut m = started(alloc, &p, row.given, world)??;
     let ends = [ended(&mut m, row.steps)?, ended(&mut m, 9)?];
-    Ok(ends == row.ends && m.output() == row.output.as_bytes())
+    Ok(ends == row.ends && has_printed(&m, row.output))
 }
 
 #[test]
