@@ -112,6 +112,15 @@ fn are_few(c: &Contract) -> bool
     all_few(c.needs.as_slice()) && all_alternatives_few(c.gives.as_slice())
 }
 
+/// Whether a clause of a contract of few parts holds.
+fn holds_in(c: &Contract, part: Part, view: &View) -> Option<bool> {
+    if are_few(c) {
+        Some(holds(c, part, view))
+    } else {
+        None
+    }
+}
+
 /// Whether a clause of a contract holds.
 fn is_true(alloc: Global, text: &str, part: Part) -> Result<bool, Fail> {
     let c = contract(alloc, text)?;
@@ -126,11 +135,7 @@ fn is_true(alloc: Global, text: &str, part: Part) -> Result<bool, Fail> {
         answer: None,
         first: 2,
     };
-    if are_few(&c) {
-        Ok(holds(&c, part, &view))
-    } else {
-        Err(Fail::from("a long atom"))
-    }
+    Ok(holds_in(&c, part, &view).ok_or("a long atom")?)
 }
 
 /// A contract, a clause of it, and whether that holds.
