@@ -3,7 +3,9 @@ pub mod Names
 pub mod Terms
 pub mod Chars
 pub mod Limits
+pub mod Within
 pub mod Meant
+pub mod BuiltIns
 pub mod Kinds
 pub mod Named
 pub mod ContractForm

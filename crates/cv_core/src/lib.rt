@@ -2,6 +2,7 @@
 #![tactic(auto)]
 
 mod chars;
+mod contracts;
 mod faults;
 mod laws;
 mod limits;
@@ -10,6 +11,7 @@ mod program;
 mod shape;
 
 pub use chars::{char_of, greatest_char, least_char, low_byte};
+pub use contracts::{BuiltIns, built_ins, callee};
 pub use cv_list::{Bytes, List};
 pub use faults::{ErrKind, LimitFault, LimitName, PtsTable, ShapeFault, ShapeRule};
 pub use laws::worked_faults;

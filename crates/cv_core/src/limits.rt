@@ -1,7 +1,7 @@
 //! The limits on the parts of a program.
 ghost use Rattle.std.specs.Prelude.{◌≡◌, ◌+◌, length, None, OnOk, IfErr};
 ghost use Rattle.std.specs.List.{list_any};
-ghost use Rattle.cv_core.specs.Limits.{IsFirstLimit, first_limit as first_limit_of, has_many_atoms as many_atoms, has_many_parts as many_parts, is_passed as passed, most as most_of, part_count as parts_of, passes as passes_of, variable_count as variables_of};
+ghost use Rattle.cv_core.specs.Limits as spec;
 ghost use Rattle.cv_core.specs.Names.{stmts_of as stmts_in};
 
 use crate::faults::{LimitFault, LimitName};
@@ -25,7 +25,7 @@ const TESTED: [LimitName; 10] = [
 
 /// The greatest count that a limit of a program allows.
 fn most(which: LimitName) -> usize
-    ensures { result ≡ most_of which }
+    ensures { result ≡ spec.most which }
 {
     match which {
         LimitName::Procedures => 256,
@@ -50,7 +50,7 @@ fn most(which: LimitName) -> usize
 }
 
 fn passes(which: LimitName, count: usize) -> bool
-    ensures { result ≡ passes_of which count }
+    ensures { result ≡ spec.passes which count }
 {
     let limit = most(which);
     limit < count
@@ -58,14 +58,14 @@ fn passes(which: LimitName, count: usize) -> bool
 
 /// Whether two counts are together past a limit.
 fn passes_together(which: LimitName, first: usize, second: usize) -> bool
-    ensures { result ≡ passes_of which (first + second) }
+    ensures { result ≡ spec.passes which (first + second) }
 {
     passes(which, first.saturating_add(second))
 }
 
 /// Whether some literal is too long.
 fn has_long_literal(literals: &[Literal]) -> bool
-    ensures { result ≡ list_any (λ l. passes_of LimitName.Literal (length l.bytes)) literals.now }
+    ensures { result ≡ list_any (λ l. spec.passes LimitName.Literal (length l.bytes)) literals.now }
 {
     literals
         .iter()
@@ -74,14 +74,14 @@ fn has_long_literal(literals: &[Literal]) -> bool
 
 /// Whether the formals and locals of a procedure are together too many.
 fn has_many_locals(f: &Proc) -> bool
-    ensures { result ≡ passes_of LimitName.Locals (variables_of f.now) }
+    ensures { result ≡ spec.passes LimitName.Locals (spec.variable_count f.now) }
 {
     passes_together(LimitName::Locals, f.formals.len(), locals_of(f).len())
 }
 
 /// Whether an atom has too many parts.
 fn has_many_parts(a: &Atom) -> bool
-    ensures { result ≡ passes_of LimitName.Parts (parts_of a.now) }
+    ensures { result ≡ spec.passes LimitName.Parts (spec.part_count a.now) }
 {
     match a {
         Atom::Compare { left, right, .. } => {
@@ -93,14 +93,14 @@ fn has_many_parts(a: &Atom) -> bool
 
 /// Whether some atom has too many parts.
 fn some_many_parts(atoms: &List<Atom>) -> bool
-    ensures { result ≡ list_any (λ a. passes_of LimitName.Parts (parts_of a)) atoms.now }
+    ensures { result ≡ list_any (λ a. spec.passes LimitName.Parts (spec.part_count a)) atoms.now }
 {
     atoms.as_slice().iter().any(|a| has_many_parts(a))
 }
 
 /// Whether some alternative has too many atoms.
 fn some_alternative_is_long(alternatives: &List<List<Atom>>) -> bool
-    ensures { result ≡ list_any (λ atoms. passes_of LimitName.Atoms (length atoms)) alternatives.now }
+    ensures { result ≡ list_any (λ atoms. spec.passes LimitName.Atoms (length atoms)) alternatives.now }
 {
     alternatives
         .as_slice()
@@ -110,7 +110,7 @@ fn some_alternative_is_long(alternatives: &List<List<Atom>>) -> bool
 
 /// Whether some alternative has an atom with too many parts.
 fn some_alternative_has_many_parts(alternatives: &List<List<Atom>>) -> bool
-    ensures { result ≡ list_any (list_any (λ a. passes_of LimitName.Parts (parts_of a))) alternatives.now }
+    ensures { result ≡ list_any (list_any (λ a. spec.passes LimitName.Parts (spec.part_count a))) alternatives.now }
 {
     alternatives
         .as_slice()
@@ -120,7 +120,7 @@ fn some_alternative_has_many_parts(alternatives: &List<List<Atom>>) -> bool
 
 /// Whether requires or some alternative of ensures has too many atoms.
 fn contract_has_many_atoms(c: &Contract) -> bool
-    ensures { result ≡ many_atoms c.now }
+    ensures { result ≡ spec.has_many_atoms c.now }
 {
     let needs = passes(LimitName::Atoms, c.needs.len());
     let gives = some_alternative_is_long(&c.gives);
@@ -129,7 +129,7 @@ fn contract_has_many_atoms(c: &Contract) -> bool
 
 /// Whether some atom of requires or ensures has too many parts.
 fn contract_has_many_parts(c: &Contract) -> bool
-    ensures { result ≡ many_parts c.now }
+    ensures { result ≡ spec.has_many_parts c.now }
 {
     let needs = some_many_parts(&c.needs);
     let gives = some_alternative_has_many_parts(&c.gives);
@@ -137,7 +137,7 @@ fn contract_has_many_parts(c: &Contract) -> bool
 }
 
 fn some_proc_has_many_formals(procs: &[Proc]) -> bool
-    ensures { result ≡ list_any (λ f. passes_of LimitName.Formals (length f.formals)) procs.now }
+    ensures { result ≡ list_any (λ f. spec.passes LimitName.Formals (length f.formals)) procs.now }
 {
     procs
         .iter()
@@ -145,13 +145,13 @@ fn some_proc_has_many_formals(procs: &[Proc]) -> bool
 }
 
 fn some_proc_has_many_locals(procs: &[Proc]) -> bool
-    ensures { result ≡ list_any (λ f. passes_of LimitName.Locals (variables_of f)) procs.now }
+    ensures { result ≡ list_any (λ f. spec.passes LimitName.Locals (spec.variable_count f)) procs.now }
 {
     procs.iter().any(|f| has_many_locals(f))
 }
 
 fn some_proc_has_many_statements(procs: &[Proc]) -> bool
-    ensures { result ≡ list_any (λ f. passes_of LimitName.Statements (length (stmts_in f.body))) procs.now }
+    ensures { result ≡ list_any (λ f. spec.passes LimitName.Statements (length (stmts_in f.body))) procs.now }
 {
     procs
         .iter()
@@ -159,26 +159,26 @@ fn some_proc_has_many_statements(procs: &[Proc]) -> bool
 }
 
 fn some_proc_has_many_atoms(procs: &[Proc]) -> bool
-    ensures { result ≡ list_any (λ f. many_atoms f.contract) procs.now }
+    ensures { result ≡ list_any (λ f. spec.has_many_atoms f.contract) procs.now }
 {
     procs.iter().any(|f| contract_has_many_atoms(&f.contract))
 }
 
 fn some_proc_has_many_parts(procs: &[Proc]) -> bool
-    ensures { result ≡ list_any (λ f. many_parts f.contract) procs.now }
+    ensures { result ≡ list_any (λ f. spec.has_many_parts f.contract) procs.now }
 {
     procs.iter().any(|f| contract_has_many_parts(&f.contract))
 }
 
 fn some_proc_has_many_alternatives(procs: &[Proc]) -> bool
-    ensures { result ≡ list_any (λ f. passes_of LimitName.Alternatives (length f.contract.gives)) procs.now }
+    ensures { result ≡ list_any (λ f. spec.passes LimitName.Alternatives (length f.contract.gives)) procs.now }
 {
     procs.iter().any(|f| passes(LimitName::Alternatives, f.contract.gives.len()))
 }
 
 /// Whether a program passes a limit.
 fn is_passed(p: &Program, which: LimitName) -> bool
-    ensures { result ≡ passed p.now which }
+    ensures { result ≡ spec.is_passed p.now which }
 {
     let procs = p.procs.as_slice();
     match which {
@@ -198,7 +198,7 @@ fn is_passed(p: &Program, which: LimitName) -> bool
 
 /// The first limit, in the order of the tests, that a program passes.
 fn first_limit(p: &Program) -> Option<LimitName>
-    ensures { result ≡ first_limit_of p.now }
+    ensures { result ≡ spec.first_limit p.now }
 {
     TESTED.iter().copied().find(|which| is_passed(p, *which))
 }
@@ -207,8 +207,8 @@ fn first_limit(p: &Program) -> Option<LimitName>
 /// of an ensures. The error is the first limit that is passed, with the limit plus one as its count. It takes
 /// no memory.
 pub fn check_limits(p: &Program) -> Result<(), LimitFault>
-    ensures within { OnOk result (first_limit_of p.now ≡ None) }
-    ensures passed { IfErr result (λ e. IsFirstLimit p.now e) }
+    ensures within { OnOk result (spec.first_limit p.now ≡ None) }
+    ensures passed { IfErr result (λ e. spec.IsFirstLimit p.now e) }
 {
     match first_limit(p) {
         None => Ok(()),

@@ -3,7 +3,7 @@ ghost use Rattle.std.specs.Prelude.{◌≡◌, ◌<◌, ◌≤◌, IfSome, bytes
 ghost use Rattle.std.specs.Option.{option_copied};
 ghost use Rattle.cv_core.specs.Headings.{is_main as main_name};
 ghost use Rattle.cv_core.specs.Meant.{built_in as built_in_of, built_in_answer as answer_of, called as called_of};
-ghost use Rattle.cv_core.specs.Names.{declared_among, declared_in_locals, declared_kind as declared_kind_of, is_getchar as getchar_form, is_malloc as malloc_form, is_object as object, is_pointer_cell as pointer_cell, is_pointer_global as pointer_global, is_pointer_kind as pointer_kind, is_pointer_local as pointer_local, kind_among as kind_in, kind_in_locals as kind_among_locals, kind_of as kind_of_name, kind_of_local as kind_of_body, locals_of as locals_in, mallocs_in, objects_of, place_of, stmts_of as stmts_in, variable_kind as variable_kind_of};
+ghost use Rattle.cv_core.specs.Names as spec;
 
 use crate::program::{
     Form, Formal, GlobalBody, GlobalDecl, Literal, Local, LocalBody, Proc, Program, ResultKind,
@@ -22,7 +22,7 @@ pub enum BuiltIn {
 
 /// The locals of a procedure; none without a body.
 pub fn locals_of(f: &Proc) -> &[Local]
-    ensures { result.now ≡ locals_in f.now.body }
+    ensures { result.now ≡ spec.locals_of f.now.body }
 {
     match &f.body {
         None => &[],
@@ -32,7 +32,7 @@ pub fn locals_of(f: &Proc) -> &[Local]
 
 /// The statements of a procedure; none without a body.
 pub fn stmts_of(f: &Proc) -> &[Stmt]
-    ensures { result.now ≡ stmts_in f.now.body }
+    ensures { result.now ≡ spec.stmts_of f.now.body }
 {
     match &f.body {
         None => &[],
@@ -44,21 +44,21 @@ pub fn stmts_of(f: &Proc) -> &[Stmt]
 
 /// Whether a variable of the kind holds a pointer.
 pub fn is_pointer_kind(kind: VarKind) -> bool
-    ensures { result ≡ pointer_kind kind }
+    ensures { result ≡ spec.is_pointer_kind kind }
 {
     matches!(kind, VarKind::Ptr | VarKind::Pptr | VarKind::Iptr)
 }
 
 /// Whether a local is a buffer or a cell, which a procedure makes as it is entered.
 pub fn is_object(body: LocalBody) -> bool
-    ensures { result ≡ object body }
+    ensures { result ≡ spec.is_object body }
 {
     !matches!(body, LocalBody::Var(_))
 }
 
 /// Whether a local is a variable that holds a pointer.
 pub fn is_pointer_local(body: LocalBody) -> bool
-    ensures { result ≡ pointer_local body }
+    ensures { result ≡ spec.is_pointer_local body }
 {
     match body {
         LocalBody::Var(kind) => is_pointer_kind(kind),
@@ -70,20 +70,20 @@ pub fn is_pointer_local(body: LocalBody) -> bool
 
 /// Whether a local is a cell that holds a pointer.
 pub fn is_pointer_cell(body: LocalBody) -> bool
-    ensures { result ≡ pointer_cell body }
+    ensures { result ≡ spec.is_pointer_cell body }
 {
     matches!(body, LocalBody::PointerCell)
 }
 
 /// Whether a global is a cell that holds a pointer.
 pub fn is_pointer_global(body: GlobalBody) -> bool
-    ensures { result ≡ pointer_global body }
+    ensures { result ≡ spec.is_pointer_global body }
 {
     matches!(body, GlobalBody::Pointer)
 }
 
 fn kind_of_local(body: LocalBody) -> VarKind
-    ensures { result ≡ kind_of_body body }
+    ensures { result ≡ spec.kind_of_local body }
 {
     match body {
         LocalBody::Var(kind) => kind,
@@ -92,7 +92,7 @@ fn kind_of_local(body: LocalBody) -> VarKind
 }
 
 fn kind_in_locals(locals: &[Local], x: &[u8]) -> VarKind
-    ensures { result ≡ kind_among_locals x.now locals.now }
+    ensures { result ≡ spec.kind_in_locals x.now locals.now }
 {
     match locals {
         [] => VarKind::Int,
@@ -107,7 +107,7 @@ fn kind_in_locals(locals: &[Local], x: &[u8]) -> VarKind
 }
 
 fn kind_among(formals: &[Formal], locals: &[Local], x: &[u8]) -> VarKind
-    ensures { result ≡ kind_in x.now formals.now locals.now }
+    ensures { result ≡ spec.kind_among x.now formals.now locals.now }
 {
     match formals {
         [] => kind_in_locals(locals, x),
@@ -123,13 +123,13 @@ fn kind_among(formals: &[Formal], locals: &[Local], x: &[u8]) -> VarKind
 
 /// The kind of a variable of the procedure by its first declaration; a name that declares none counts as an int.
 pub fn kind_of(f: &Proc, x: &[u8]) -> VarKind
-    ensures { result ≡ kind_of_name f.now x.now }
+    ensures { result ≡ spec.kind_of f.now x.now }
 {
     kind_among(f.formals.as_slice(), locals_of(f), x)
 }
 
 fn declared_kind(body: LocalBody) -> Option<VarKind>
-    ensures { result ≡ declared_kind_of body }
+    ensures { result ≡ spec.declared_kind body }
 {
     match body {
         LocalBody::Var(kind) => Some(kind),
@@ -138,7 +138,7 @@ fn declared_kind(body: LocalBody) -> Option<VarKind>
 }
 
 fn variable_in_locals(locals: &[Local], x: &[u8]) -> Option<VarKind>
-    ensures { result ≡ declared_in_locals x.now locals.now }
+    ensures { result ≡ spec.declared_in_locals x.now locals.now }
 {
     match locals {
         [] => None,
@@ -153,7 +153,7 @@ fn variable_in_locals(locals: &[Local], x: &[u8]) -> Option<VarKind>
 }
 
 fn variable_among(formals: &[Formal], locals: &[Local], x: &[u8]) -> Option<VarKind>
-    ensures { result ≡ declared_among x.now formals.now locals.now }
+    ensures { result ≡ spec.declared_among x.now formals.now locals.now }
 {
     match formals {
         [] => variable_in_locals(locals, x),
@@ -169,7 +169,7 @@ fn variable_among(formals: &[Formal], locals: &[Local], x: &[u8]) -> Option<VarK
 
 /// The kind of a variable of the procedure by its first declaration; None where that is an object, or there is none.
 pub fn variable_kind(f: &Proc, x: &[u8]) -> Option<VarKind>
-    ensures { result ≡ variable_kind_of f.now x.now }
+    ensures { result ≡ spec.variable_kind f.now x.now }
 {
     variable_among(f.formals.as_slice(), locals_of(f), x)
 }
@@ -226,7 +226,7 @@ pub fn is_malloc_name(name: &[u8]) -> bool
 
 /// Whether a statement calls `malloc`.
 pub fn is_malloc(form: &Form) -> bool
-    ensures { result ≡ malloc_form form.now }
+    ensures { result ≡ spec.is_malloc form.now }
 {
     match form {
         Form::Call { f, .. } => is_malloc_name(f.as_slice()),
@@ -236,7 +236,7 @@ pub fn is_malloc(form: &Form) -> bool
 
 /// Whether a statement calls `getchar`.
 pub fn is_getchar(form: &Form) -> bool
-    ensures { result ≡ getchar_form form.now }
+    ensures { result ≡ spec.is_getchar form.now }
 {
     match form {
         Form::Call { f, .. } => f.as_slice() == b"getchar".as_slice(),
@@ -248,7 +248,7 @@ pub fn is_getchar(form: &Form) -> bool
 
 /// The number, from 0, of the first of the procedure's objects that has the name.
 pub fn object_place(f: &Proc, x: &[u8]) -> Option<usize>
-    ensures { result ≡ place_of (λ l. l.name) x.now (objects_of f.now) }
+    ensures { result ≡ spec.place_of (λ l. l.name) x.now (spec.objects_of f.now) }
 {
     locals_of(f)
         .iter()
@@ -258,7 +258,7 @@ pub fn object_place(f: &Proc, x: &[u8]) -> Option<usize>
 
 /// The number, from 0, of the first global that has the name.
 pub fn global_place(globals: &[GlobalDecl], x: &[u8]) -> Option<usize>
-    ensures place { result ≡ place_of (λ g. g.name) x.now globals.now }
+    ensures place { result ≡ spec.place_of (λ g. g.name) x.now globals.now }
     ensures within { IfSome result (λ i. i < length globals.now) }
 {
     globals.iter().position(|g| g.name.as_slice() == x)
@@ -266,7 +266,7 @@ pub fn global_place(globals: &[GlobalDecl], x: &[u8]) -> Option<usize>
 
 /// The number, from 0, of the first literal that has the name.
 pub fn literal_place(literals: &[Literal], x: &[u8]) -> Option<usize>
-    ensures place { result ≡ place_of (λ l. l.name) x.now literals.now }
+    ensures place { result ≡ spec.place_of (λ l. l.name) x.now literals.now }
     ensures within { IfSome result (λ i. i < length literals.now) }
 {
     literals.iter().position(|l| l.name.as_slice() == x)
@@ -274,8 +274,8 @@ pub fn literal_place(literals: &[Literal], x: &[u8]) -> Option<usize>
 
 /// How many buffers and cells a procedure makes as it is entered.
 pub fn object_count(f: &Proc) -> usize
-    ensures count { result ≡ length (objects_of f.now) }
-    ensures within { result ≤ length (locals_in f.now.body) }
+    ensures count { result ≡ length (spec.objects_of f.now) }
+    ensures within { result ≤ length (spec.locals_of f.now.body) }
 {
     locals_of(f).iter().filter(|l| is_object(l.body)).count()
 }
@@ -283,7 +283,7 @@ pub fn object_count(f: &Proc) -> usize
 /// How many of the statements are calls of `malloc`.
 #[tactic(auto, using(crate::proofs::Counts::count_yes, crate::proofs::Counts::count_no))]
 pub fn malloc_count(stmts: &[Stmt]) -> usize
-    ensures count { result ≡ mallocs_in stmts.now }
+    ensures count { result ≡ spec.mallocs_in stmts.now }
     ensures within { result ≤ length stmts.now }
 {
     match stmts {

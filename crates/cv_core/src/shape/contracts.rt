@@ -1,7 +1,7 @@
 //! The form of contracts.
 ghost use Rattle.std.specs.Prelude.{◌≡◌, ◌&&◌, nat_le};
 ghost use Rattle.std.specs.List.{count_by, list_all};
-ghost use Rattle.cv_core.specs.ContractForm.{allows_pre as pre_allowed, alternative_formed as alternative_formed_of, atom_formed as atom_formed_of, contract_formed as contract_formed_of, fresh_formed as fresh_formed_of, gives_number as number_given, gives_pointer as pointer_given, is_ensures as ensures_side, is_fresh as fresh_atom, is_plain_formal as plain_formal, item_formed as item_formed_of, lin_formed as lin_formed_of, names_cell as cell_named, names_global as global_named, names_number as number_named, names_pointer as pointer_named, part_formed as part_formed_of, pointer_formed as pointer_formed_of, term_formed as term_formed_of};
+ghost use Rattle.cv_core.specs.ContractForm as spec;
 ghost use Rattle.cv_core.specs.Meant.{mentioned_in as mentioned_in_of};
 
 use crate::program::{Atom, Contract, Item, LinPart, Proc, PtrTerm, ResultKind, Term, VarKind};
@@ -21,20 +21,20 @@ pub(crate) enum Side {
 }
 
 fn is_ensures(d: Side) -> bool
-    ensures { result ≡ ensures_side d }
+    ensures { result ≡ spec.is_ensures d }
 {
     matches!(d, Side::Ensures)
 }
 
 fn allows_pre(d: Side) -> bool
-    ensures { result ≡ pre_allowed d }
+    ensures { result ≡ spec.allows_pre d }
 {
     matches!(d, Side::Modifies | Side::Ensures)
 }
 
 /// Whether a name stands for a pointer.
 fn names_pointer(m: Option<Meant>) -> bool
-    ensures { result ≡ pointer_named m }
+    ensures { result ≡ spec.names_pointer m }
 {
     match m {
         None => false,
@@ -47,7 +47,7 @@ fn names_pointer(m: Option<Meant>) -> bool
 
 /// Whether a name stands for a number.
 fn names_number(m: Option<Meant>) -> bool
-    ensures { result ≡ number_named m }
+    ensures { result ≡ spec.names_number m }
 {
     match m {
         None => false,
@@ -60,26 +60,26 @@ fn names_number(m: Option<Meant>) -> bool
 
 /// Whether a name stands for a cell that is a global.
 fn names_cell(m: Option<Meant>) -> bool
-    ensures { result ≡ cell_named m }
+    ensures { result ≡ spec.names_cell m }
 {
     matches!(m, Some(Meant::PointerCell | Meant::IntCell))
 }
 
 /// Whether a name stands for a global.
 fn names_global(m: Option<Meant>) -> bool
-    ensures { result ≡ global_named m }
+    ensures { result ≡ spec.names_global m }
 {
     matches!(m, Some(Meant::Buffer | Meant::PointerCell | Meant::IntCell))
 }
 
 fn gives_pointer(answer: ResultKind) -> bool
-    ensures { result ≡ pointer_given answer }
+    ensures { result ≡ spec.gives_pointer answer }
 {
     matches!(answer, ResultKind::Ptr)
 }
 
 fn gives_number(answer: ResultKind) -> bool
-    ensures { result ≡ number_given answer }
+    ensures { result ≡ spec.gives_number answer }
 {
     matches!(answer, ResultKind::Int | ResultKind::Char)
 }
@@ -87,7 +87,7 @@ fn gives_number(answer: ResultKind) -> bool
 /// Whether a pointer may stand where it does.
 #[tactic(auto, using(crate::proofs::Formed::pointer_pre))]
 fn pointer_formed(s: &Scope, d: Side, t: &PtrTerm) -> bool
-    ensures { result ≡ pointer_formed_of s.entry.now.program.now s.entry.now.proc.now d t.now }
+    ensures { result ≡ spec.pointer_formed s.entry.now.program.now s.entry.now.proc.now d t.now }
 {
     match t {
         PtrTerm::Name(x) => names_pointer(mentioned_in(s, x)),
@@ -108,7 +108,7 @@ fn pointer_formed(s: &Scope, d: Side, t: &PtrTerm) -> bool
 /// Whether a term may stand where it does.
 #[tactic(auto, using(crate::proofs::Formed::term_pre))]
 fn term_formed(s: &Scope, d: Side, t: &Term) -> bool
-    ensures { result ≡ term_formed_of s.entry.now.program.now s.entry.now.proc.now d t.now }
+    ensures { result ≡ spec.term_formed s.entry.now.program.now s.entry.now.proc.now d t.now }
 {
     match t {
         Term::Name(x) => names_number(mentioned_in(s, x)),
@@ -131,7 +131,7 @@ fn term_formed(s: &Scope, d: Side, t: &Term) -> bool
 
 /// Whether a part of a sum may stand where it does.
 fn part_formed(s: &Scope, d: Side, number: Option<u32>, term: &Option<Term>) -> bool
-    ensures { result ≡ part_formed_of s.entry.now.program.now s.entry.now.proc.now d number term.now }
+    ensures { result ≡ spec.part_formed s.entry.now.program.now s.entry.now.proc.now d number term.now }
 {
     match term {
         None => true,
@@ -146,7 +146,7 @@ fn part_formed(s: &Scope, d: Side, number: Option<u32>, term: &Option<Term>) -> 
 }
 
 fn lin_formed(s: &Scope, d: Side, parts: &List<LinPart>) -> bool
-    ensures { result ≡ lin_formed_of s.entry.now.program.now s.entry.now.proc.now d parts.now }
+    ensures { result ≡ spec.lin_formed s.entry.now.program.now s.entry.now.proc.now d parts.now }
 {
     parts
         .as_slice()
@@ -157,7 +157,7 @@ fn lin_formed(s: &Scope, d: Side, parts: &List<LinPart>) -> bool
 /// Whether a pointer is a formal that isn't written with a star, also under `pre`.
 #[tactic(auto, using(crate::proofs::Formed::plain_pre))]
 fn is_plain_formal(f: &Proc, t: &PtrTerm) -> bool
-    ensures { result ≡ plain_formal f.now t.now }
+    ensures { result ≡ spec.is_plain_formal f.now t.now }
 {
     match t {
         PtrTerm::Name(x) => formal_meant(f.formals.as_slice(), x.as_slice()).is_some(),
@@ -168,7 +168,7 @@ fn is_plain_formal(f: &Proc, t: &PtrTerm) -> bool
 }
 
 fn fresh_formed(s: &Scope, d: Side, p: &PtrTerm) -> bool
-    ensures { result ≡ fresh_formed_of s.entry.now.program.now s.entry.now.proc.now d p.now }
+    ensures { result ≡ spec.fresh_formed s.entry.now.program.now s.entry.now.proc.now d p.now }
 {
     let allowed = is_ensures(d);
     let formed = pointer_formed(s, d, p);
@@ -177,7 +177,7 @@ fn fresh_formed(s: &Scope, d: Side, p: &PtrTerm) -> bool
 }
 
 fn pointers_formed(s: &Scope, d: Side, p: &PtrTerm, q: &PtrTerm) -> bool
-    ensures { result ≡ (pointer_formed_of s.entry.now.program.now s.entry.now.proc.now d p.now && pointer_formed_of s.entry.now.program.now s.entry.now.proc.now d q.now) }
+    ensures { result ≡ (spec.pointer_formed s.entry.now.program.now s.entry.now.proc.now d p.now && spec.pointer_formed s.entry.now.program.now s.entry.now.proc.now d q.now) }
 {
     let first = pointer_formed(s, d, p);
     let second = pointer_formed(s, d, q);
@@ -185,7 +185,7 @@ fn pointers_formed(s: &Scope, d: Side, p: &PtrTerm, q: &PtrTerm) -> bool
 }
 
 fn lins_formed(s: &Scope, d: Side, left: &List<LinPart>, right: &List<LinPart>) -> bool
-    ensures { result ≡ (lin_formed_of s.entry.now.program.now s.entry.now.proc.now d left.now && lin_formed_of s.entry.now.program.now s.entry.now.proc.now d right.now) }
+    ensures { result ≡ (spec.lin_formed s.entry.now.program.now s.entry.now.proc.now d left.now && spec.lin_formed s.entry.now.program.now s.entry.now.proc.now d right.now) }
 {
     let first = lin_formed(s, d, left);
     let second = lin_formed(s, d, right);
@@ -194,7 +194,7 @@ fn lins_formed(s: &Scope, d: Side, left: &List<LinPart>, right: &List<LinPart>) 
 
 /// Whether an atom may stand where it does.
 fn atom_formed(s: &Scope, d: Side, a: &Atom) -> bool
-    ensures { result ≡ atom_formed_of s.entry.now.program.now s.entry.now.proc.now d a.now }
+    ensures { result ≡ spec.atom_formed s.entry.now.program.now s.entry.now.proc.now d a.now }
 {
     match a {
         Atom::Null { ptr, .. } => pointer_formed(s, d, ptr),
@@ -208,27 +208,27 @@ fn atom_formed(s: &Scope, d: Side, a: &Atom) -> bool
 }
 
 fn atoms_formed(s: &Scope, d: Side, atoms: &List<Atom>) -> bool
-    ensures { result ≡ list_all (atom_formed_of s.entry.now.program.now s.entry.now.proc.now d) atoms.now }
+    ensures { result ≡ list_all (spec.atom_formed s.entry.now.program.now s.entry.now.proc.now d) atoms.now }
 {
     atoms.as_slice().iter().all(|a| atom_formed(s, d, a))
 }
 
 fn is_fresh(a: &Atom) -> bool
-    ensures { result ≡ fresh_atom a.now }
+    ensures { result ≡ spec.is_fresh a.now }
 {
     matches!(a, Atom::Fresh(_))
 }
 
 /// Whether there is at most one `fresh`.
 fn has_few_fresh(atoms: &List<Atom>) -> bool
-    ensures { result ≡ nat_le (count_by fresh_atom atoms.now) 1 }
+    ensures { result ≡ nat_le (count_by spec.is_fresh atoms.now) 1 }
 {
     let count = atoms.as_slice().iter().filter(|a| is_fresh(a)).count();
     count <= 1
 }
 
 fn alternative_formed(s: &Scope, atoms: &List<Atom>) -> bool
-    ensures { result ≡ alternative_formed_of s.entry.now.program.now s.entry.now.proc.now atoms.now }
+    ensures { result ≡ spec.alternative_formed s.entry.now.program.now s.entry.now.proc.now atoms.now }
 {
     let formed = atoms_formed(s, Side::Ensures, atoms);
     let few = has_few_fresh(atoms);
@@ -236,7 +236,7 @@ fn alternative_formed(s: &Scope, atoms: &List<Atom>) -> bool
 }
 
 fn gives_formed(s: &Scope, gives: &List<List<Atom>>) -> bool
-    ensures { result ≡ list_all (alternative_formed_of s.entry.now.program.now s.entry.now.proc.now) gives.now }
+    ensures { result ≡ list_all (spec.alternative_formed s.entry.now.program.now s.entry.now.proc.now) gives.now }
 {
     gives
         .as_slice()
@@ -246,7 +246,7 @@ fn gives_formed(s: &Scope, gives: &List<List<Atom>>) -> bool
 
 /// Whether an item is an object.
 fn item_formed(s: &Scope, i: &Item) -> bool
-    ensures { result ≡ item_formed_of s.entry.now.program.now s.entry.now.proc.now i.now }
+    ensures { result ≡ spec.item_formed s.entry.now.program.now s.entry.now.proc.now i.now }
 {
     match i {
         Item::Body(p) => pointer_formed(s, Side::Modifies, p),
@@ -261,26 +261,26 @@ fn item_formed(s: &Scope, i: &Item) -> bool
 }
 
 fn items_formed(s: &Scope, items: &List<Item>) -> bool
-    ensures { result ≡ list_all (item_formed_of s.entry.now.program.now s.entry.now.proc.now) items.now }
+    ensures { result ≡ list_all (spec.item_formed s.entry.now.program.now s.entry.now.proc.now) items.now }
 {
     items.as_slice().iter().all(|i| item_formed(s, i))
 }
 
 fn is_global_name(s: &Scope, x: &Bytes) -> bool
-    ensures { result ≡ global_named (mentioned_in_of s.entry.now.program.now s.entry.now.proc.now x.now) }
+    ensures { result ≡ spec.names_global (mentioned_in_of s.entry.now.program.now s.entry.now.proc.now x.now) }
 {
     names_global(mentioned_in(s, x))
 }
 
 fn listed_formed(s: &Scope, listed: &List<Bytes>) -> bool
-    ensures { result ≡ list_all (λ x. global_named (mentioned_in_of s.entry.now.program.now s.entry.now.proc.now x)) listed.now }
+    ensures { result ≡ list_all (λ x. spec.names_global (mentioned_in_of s.entry.now.program.now s.entry.now.proc.now x)) listed.now }
 {
     listed.as_slice().iter().all(|x| is_global_name(s, x))
 }
 
 /// Whether a contract of the procedure has the form of one.
 pub(crate) fn contract_formed(s: &Scope, c: &Contract) -> bool
-    ensures { result ≡ contract_formed_of s.entry.now.program.now s.entry.now.proc.now c.now }
+    ensures { result ≡ spec.contract_formed s.entry.now.program.now s.entry.now.proc.now c.now }
 {
     let listed = listed_formed(s, &c.listed);
     let needs = atoms_formed(s, Side::Requires, &c.needs);

@@ -2,7 +2,7 @@
 ghost use Rattle.std.specs.Prelude.{◌≡◌, ◌≤◌, ◌||◌, bytes_eq, length, take};
 ghost use Rattle.std.specs.List.{list_any};
 ghost use Rattle.std.specs.Option.{is_some};
-ghost use Rattle.cv_core.specs.Doubles.{formal_twice as formal_twice_of, global_twice as global_twice_of, literal_twice as literal_twice_of, local_twice as local_twice_of, proc_twice as proc_twice_of, repeats};
+ghost use Rattle.cv_core.specs.Doubles as spec;
 ghost use Rattle.cv_core.specs.Meant.{formal_meant as formal_meant_of, literal_meant as literal_meant_of, outer_meant as outer_meant_of};
 
 use crate::names::{built_in, locals_of};
@@ -20,7 +20,7 @@ fn some_global_has(globals: &[GlobalDecl], name: &Bytes) -> bool
 
 /// Whether two of the globals have one name.
 fn repeats_in_globals(globals: &[GlobalDecl]) -> bool
-    ensures { result ≡ repeats (λ x. x.name) globals.now }
+    ensures { result ≡ spec.repeats (λ x. x.name) globals.now }
 {
     let mut rest = globals;
     while let [first, tail @ ..] = rest {
@@ -43,7 +43,7 @@ fn some_literal_has(literals: &[Literal], name: &Bytes) -> bool
 
 /// Whether two of the literals have one name.
 fn repeats_in_literals(literals: &[Literal]) -> bool
-    ensures { result ≡ repeats (λ x. x.name) literals.now }
+    ensures { result ≡ spec.repeats (λ x. x.name) literals.now }
 {
     let mut rest = literals;
     while let [first, tail @ ..] = rest {
@@ -64,7 +64,7 @@ fn some_formal_has(formals: &[Formal], name: &Bytes) -> bool
 
 /// Whether two of the formals have one name.
 fn repeats_in_formals(formals: &[Formal]) -> bool
-    ensures { result ≡ repeats (λ x. x.name) formals.now }
+    ensures { result ≡ spec.repeats (λ x. x.name) formals.now }
 {
     let mut rest = formals;
     while let [first, tail @ ..] = rest {
@@ -85,7 +85,7 @@ fn some_local_has(locals: &[Local], name: &Bytes) -> bool
 
 /// Whether two of the locals have one name.
 fn repeats_in_locals(locals: &[Local]) -> bool
-    ensures { result ≡ repeats (λ x. x.name) locals.now }
+    ensures { result ≡ spec.repeats (λ x. x.name) locals.now }
 {
     let mut rest = locals;
     while let [first, tail @ ..] = rest {
@@ -99,7 +99,7 @@ fn repeats_in_locals(locals: &[Local]) -> bool
 
 /// Whether two globals have one name.
 pub(crate) fn global_twice(p: &Program) -> bool
-    ensures { result ≡ global_twice_of p.now }
+    ensures { result ≡ spec.global_twice p.now }
 {
     repeats_in_globals(p.globals.as_slice())
 }
@@ -117,7 +117,7 @@ fn global_is_literal(n: &Names) -> bool
 
 /// Whether a literal has the name of another one, or of a global.
 pub(crate) fn literal_twice(n: &Names) -> bool
-    ensures { result ≡ literal_twice_of n.entry.now.program.now }
+    ensures { result ≡ spec.literal_twice n.entry.now.program.now }
 {
     let p = n.program;
     let literals = repeats_in_literals(p.literals.as_slice());
@@ -135,7 +135,7 @@ fn some_proc_has(procs: &[Proc], name: &Bytes) -> bool
 /// Whether the procedure of this number has the name of a built-in procedure or of an earlier one.
 pub(crate) fn proc_twice(p: &Program, number: usize, f: &Proc) -> bool
     requires { number ≤ length p.now.procs }
-    ensures { result ≡ proc_twice_of p.now number f.now }
+    ensures { result ≡ spec.proc_twice p.now number f.now }
 {
     let built = built_in(f.name.as_slice()).is_some();
     let earlier = some_proc_has(&p.procs.as_slice()[..number], &f.name);
@@ -153,7 +153,7 @@ fn formal_is_outer(n: &Names, formals: &[Formal]) -> bool
 
 /// Whether a formal has the name of another one, or of a global or literal.
 pub(crate) fn formal_twice(n: &Names, f: &Proc) -> bool
-    ensures { result ≡ formal_twice_of n.entry.now.program.now f.now }
+    ensures { result ≡ spec.formal_twice n.entry.now.program.now f.now }
 {
     let formals = f.formals.as_slice();
     let own = repeats_in_formals(formals);
@@ -180,7 +180,7 @@ fn local_is_other(n: &Names, formals: &[Formal], locals: &[Local]) -> bool
 
 /// Whether a local has the name of another one, of a formal, or of a global or literal.
 pub(crate) fn local_twice(n: &Names, f: &Proc) -> bool
-    ensures { result ≡ local_twice_of n.entry.now.program.now f.now }
+    ensures { result ≡ spec.local_twice n.entry.now.program.now f.now }
 {
     let locals = locals_of(f);
     let own = repeats_in_locals(locals);

@@ -2,27 +2,27 @@
 ghost use Rattle.std.specs.Prelude.{◌≡◌, ◌&&◌, ◌==◌, bytes_eq, codes, length, not};
 ghost use Rattle.std.specs.List.{list_any};
 ghost use Rattle.std.specs.Option.{option_copied};
-ghost use Rattle.cv_core.specs.Headings.{ascend as ascend_of, breaks_extern as breaks_extern_of, breaks_main as breaks_main_of, gives_int as int_given, gives_range as gives_range_of, greatest_of as greatest, has_extern_form as extern_form, is_empty_body as empty_body, is_int as int_kind, is_main_kind as main_kind, is_range as range, is_subject as subject, least_of as least, lone_number as number_of, lone_term as term_of, number_alone as number_alone_of, takes_range as takes_range_of, term_alone as term_alone_of};
+ghost use Rattle.cv_core.specs.Headings as spec;
 
 use crate::names::is_main;
 use crate::program::{Atom, Formal, LinPart, Proc, Rel, ResultKind, Term, VarKind};
 use cv_list::{Bytes, List};
 
 fn is_int(kind: VarKind) -> bool
-    ensures { result ≡ int_kind kind }
+    ensures { result ≡ spec.is_int kind }
 {
     matches!(kind, VarKind::Int)
 }
 
 fn gives_int(answer: ResultKind) -> bool
-    ensures { result ≡ int_given answer }
+    ensures { result ≡ spec.gives_int answer }
 {
     matches!(answer, ResultKind::Int)
 }
 
 /// Whether there is a body without a statement.
 pub(crate) fn is_empty_body(f: &Proc) -> bool
-    ensures { result ≡ empty_body f.now.body }
+    ensures { result ≡ spec.is_empty_body f.now.body }
 {
     match &f.body {
         None => false,
@@ -31,21 +31,21 @@ pub(crate) fn is_empty_body(f: &Proc) -> bool
 }
 
 fn is_main_kind(kind: VarKind) -> bool
-    ensures { result ≡ main_kind kind }
+    ensures { result ≡ spec.is_main_kind kind }
 {
     matches!(kind, VarKind::Int | VarKind::Ptr)
 }
 
 /// Whether main can't have some formal.
 fn has_odd_formal(formals: &List<Formal>) -> bool
-    ensures { result ≡ list_any (λ x. not (main_kind x.kind)) formals.now }
+    ensures { result ≡ list_any (λ x. not (spec.is_main_kind x.kind)) formals.now }
 {
     formals.as_slice().iter().any(|x| !is_main_kind(x.kind))
 }
 
 /// Whether the procedure is main and has another form than main's.
 pub(crate) fn breaks_main(f: &Proc) -> bool
-    ensures { result ≡ breaks_main_of f.now }
+    ensures { result ≡ spec.breaks_main f.now }
 {
     let named = is_main(f.name.as_slice());
     let bodyless = f.body.is_none();
@@ -55,7 +55,7 @@ pub(crate) fn breaks_main(f: &Proc) -> bool
 }
 
 fn term_alone(negative: bool, number: Option<u32>, term: &Option<Term>) -> Option<&Term>
-    ensures { option_copied result ≡ term_alone_of negative number term.now }
+    ensures { option_copied result ≡ spec.term_alone negative number term.now }
 {
     match number {
         Some(_) => None,
@@ -68,7 +68,7 @@ fn term_alone(negative: bool, number: Option<u32>, term: &Option<Term>) -> Optio
 
 /// The term that a sum is.
 fn lone_term(parts: &[LinPart]) -> Option<&Term>
-    ensures { option_copied result ≡ term_of parts.now }
+    ensures { option_copied result ≡ spec.lone_term parts.now }
 {
     match parts {
         [p] => term_alone(p.negative, p.number, &p.term),
@@ -77,7 +77,7 @@ fn lone_term(parts: &[LinPart]) -> Option<&Term>
 }
 
 fn number_alone(negative: bool, number: Option<u32>, term: &Option<Term>) -> Option<i64>
-    ensures { result ≡ number_alone_of negative number term.now }
+    ensures { result ≡ spec.number_alone negative number term.now }
 {
     match term {
         Some(_) => None,
@@ -96,7 +96,7 @@ fn number_alone(negative: bool, number: Option<u32>, term: &Option<Term>) -> Opt
 
 /// The number that a sum is.
 fn lone_number(parts: &[LinPart]) -> Option<i64>
-    ensures { result ≡ number_of parts.now }
+    ensures { result ≡ spec.lone_number parts.now }
 {
     match parts {
         [p] => number_alone(p.negative, p.number, &p.term),
@@ -106,7 +106,7 @@ fn lone_number(parts: &[LinPart]) -> Option<i64>
 
 /// Whether the term is the formal of the name, or `result` where there is none.
 fn is_subject(name: Option<&Bytes>, term: Option<&Term>) -> bool
-    ensures { result ≡ subject (option_copied name.entry) (option_copied term.entry) }
+    ensures { result ≡ spec.is_subject (option_copied name.entry) (option_copied term.entry) }
 {
     match term {
         Some(Term::Name(x)) => match name {
@@ -120,7 +120,7 @@ fn is_subject(name: Option<&Bytes>, term: Option<&Term>) -> bool
 
 /// The bound of an atom that says that the subject is at least a number.
 fn least_of(name: Option<&Bytes>, a: &Atom) -> Option<i64>
-    ensures { result ≡ least (option_copied name.entry) a.now }
+    ensures { result ≡ spec.least_of (option_copied name.entry) a.now }
 {
     match a {
         Atom::Compare {
@@ -140,7 +140,7 @@ fn least_of(name: Option<&Bytes>, a: &Atom) -> Option<i64>
 
 /// The bound of an atom that says that the subject is at most a number.
 fn greatest_of(name: Option<&Bytes>, a: &Atom) -> Option<i64>
-    ensures { result ≡ greatest (option_copied name.entry) a.now }
+    ensures { result ≡ spec.greatest_of (option_copied name.entry) a.now }
 {
     match a {
         Atom::Compare {
@@ -159,7 +159,7 @@ fn greatest_of(name: Option<&Bytes>, a: &Atom) -> Option<i64>
 }
 
 fn ascend(least: Option<i64>, greatest: Option<i64>) -> bool
-    ensures { result ≡ ascend_of least greatest }
+    ensures { result ≡ spec.ascend least greatest }
 {
     match (least, greatest) {
         (Some(a), Some(b)) => a <= b,
@@ -169,7 +169,7 @@ fn ascend(least: Option<i64>, greatest: Option<i64>) -> bool
 
 /// Whether the atoms are the two of a range.
 fn is_range(name: Option<&Bytes>, atoms: &[Atom]) -> bool
-    ensures { result ≡ range (option_copied name.entry) atoms.now }
+    ensures { result ≡ spec.is_range (option_copied name.entry) atoms.now }
 {
     match atoms {
         [a, b] => {
@@ -182,7 +182,7 @@ fn is_range(name: Option<&Bytes>, atoms: &[Atom]) -> bool
 }
 
 fn takes_range(formals: &[Formal], needs: &List<Atom>) -> bool
-    ensures { result ≡ takes_range_of formals.now needs.now }
+    ensures { result ≡ spec.takes_range formals.now needs.now }
 {
     match formals {
         [x] => {
@@ -195,7 +195,7 @@ fn takes_range(formals: &[Formal], needs: &List<Atom>) -> bool
 }
 
 fn gives_range(alternatives: &[List<Atom>]) -> bool
-    ensures { result ≡ gives_range_of alternatives.now }
+    ensures { result ≡ spec.gives_range alternatives.now }
 {
     match alternatives {
         [atoms] => is_range(None, atoms.as_slice()),
@@ -205,7 +205,7 @@ fn gives_range(alternatives: &[List<Atom>]) -> bool
 
 /// Whether the procedure has the form of an extern one.
 fn has_extern_form(f: &Proc) -> bool
-    ensures { result ≡ extern_form f.now }
+    ensures { result ≡ spec.has_extern_form f.now }
 {
     let c = &f.contract;
     let takes = takes_range(f.formals.as_slice(), &c.needs);
@@ -217,7 +217,7 @@ fn has_extern_form(f: &Proc) -> bool
 
 /// Whether the procedure is extern and has another form than an extern one.
 pub(crate) fn breaks_extern(f: &Proc) -> bool
-    ensures { result ≡ breaks_extern_of f.now }
+    ensures { result ≡ spec.breaks_extern f.now }
 {
     let bodyless = f.body.is_none();
     let formed = has_extern_form(f);

@@ -1,7 +1,7 @@
 //! The kinds that statements ask of what they name, and the number of arguments of a call.
 ghost use Rattle.std.specs.Prelude.{◌≡◌, ◌&&◌, [], length, map};
 ghost use Rattle.std.specs.Option.{option_copied};
-ghost use Rattle.cv_core.specs.Kinds.{calls as calls_of, compares as compares_of, copies as copies_of, counts as counts_of, has_count as has_count_of, has_kinds as has_kinds_of, held_by as held_by_of, is_argument as argument, is_char_operand as char_operand, is_equality as equality, is_iptr_operand as iptr_operand, is_number_operand as number_operand, is_pptr_operand as pptr_operand, is_ptr_operand as ptr_operand, means_char as char_meant, means_int as int_meant, means_iptr as iptr_meant, means_number as number_meant, means_pointer as pointer_meant, means_pptr as pptr_meant, means_ptr as ptr_meant, points_to as points_to_of, puts as puts_of, receives as receives_of, returns_kind as returns_kind_of, same_pointers as same_pointers_of, takes as takes_of, takes_each as takes_each_of};
+ghost use Rattle.cv_core.specs.Kinds as spec;
 ghost use Rattle.cv_core.specs.Meant.{built_in_kinds as kinds_of_built_in, kinds_of as kinds_of_formals, meant_in as meant_in_of};
 
 use crate::chars::{greatest_char, least_char};
@@ -12,43 +12,43 @@ use crate::shape::tables::{Scope, called, meant_in};
 use cv_list::{Bytes, List};
 
 fn means_int(m: Option<Meant>) -> bool
-    ensures { result ≡ int_meant m }
+    ensures { result ≡ spec.means_int m }
 {
     matches!(m, Some(Meant::Variable(VarKind::Int)))
 }
 
 fn means_char(m: Option<Meant>) -> bool
-    ensures { result ≡ char_meant m }
+    ensures { result ≡ spec.means_char m }
 {
     matches!(m, Some(Meant::Variable(VarKind::Char)))
 }
 
 fn means_number(m: Option<Meant>) -> bool
-    ensures { result ≡ number_meant m }
+    ensures { result ≡ spec.means_number m }
 {
     matches!(m, Some(Meant::Variable(VarKind::Int | VarKind::Char)))
 }
 
 fn means_ptr(m: Option<Meant>) -> bool
-    ensures { result ≡ ptr_meant m }
+    ensures { result ≡ spec.means_ptr m }
 {
     matches!(m, Some(Meant::Variable(VarKind::Ptr)))
 }
 
 pub(crate) fn means_pptr(m: Option<Meant>) -> bool
-    ensures { result ≡ pptr_meant m }
+    ensures { result ≡ spec.means_pptr m }
 {
     matches!(m, Some(Meant::Variable(VarKind::Pptr)))
 }
 
 pub(crate) fn means_iptr(m: Option<Meant>) -> bool
-    ensures { result ≡ iptr_meant m }
+    ensures { result ≡ spec.means_iptr m }
 {
     matches!(m, Some(Meant::Variable(VarKind::Iptr)))
 }
 
 fn means_pointer(m: Option<Meant>) -> bool
-    ensures { result ≡ pointer_meant m }
+    ensures { result ≡ spec.means_pointer m }
 {
     matches!(
         m,
@@ -58,7 +58,7 @@ fn means_pointer(m: Option<Meant>) -> bool
 
 /// Whether both are pointer variables of one kind.
 fn same_pointers(p: Option<Meant>, q: Option<Meant>) -> bool
-    ensures { result ≡ same_pointers_of p q }
+    ensures { result ≡ spec.same_pointers p q }
 {
     match p {
         Some(Meant::Variable(VarKind::Ptr)) => means_ptr(q),
@@ -70,7 +70,7 @@ fn same_pointers(p: Option<Meant>, q: Option<Meant>) -> bool
 
 /// Whether the variable's kind points to the object.
 fn points_to(p: Option<Meant>, object: Option<Meant>) -> bool
-    ensures { result ≡ points_to_of p object }
+    ensures { result ≡ spec.points_to p object }
 {
     match p {
         Some(Meant::Variable(VarKind::Ptr)) => matches!(object, Some(Meant::Buffer)),
@@ -82,7 +82,7 @@ fn points_to(p: Option<Meant>, object: Option<Meant>) -> bool
 
 /// Whether a cell to which `w` points holds the variable's kind.
 fn held_by(x: Option<Meant>, w: Option<Meant>) -> bool
-    ensures { result ≡ held_by_of x w }
+    ensures { result ≡ spec.held_by x w }
 {
     match w {
         Some(Meant::Variable(VarKind::Pptr)) => means_ptr(x),
@@ -92,20 +92,20 @@ fn held_by(x: Option<Meant>, w: Option<Meant>) -> bool
 }
 
 fn is_number(s: &Scope, x: &Bytes) -> bool
-    ensures { result ≡ number_meant (meant_in_of s.entry.now.program.now s.entry.now.proc.now x.now) }
+    ensures { result ≡ spec.means_number (meant_in_of s.entry.now.program.now s.entry.now.proc.now x.now) }
 {
     means_number(meant_in(s, x))
 }
 
 fn is_ptr(s: &Scope, x: &Bytes) -> bool
-    ensures { result ≡ ptr_meant (meant_in_of s.entry.now.program.now s.entry.now.proc.now x.now) }
+    ensures { result ≡ spec.means_ptr (meant_in_of s.entry.now.program.now s.entry.now.proc.now x.now) }
 {
     means_ptr(meant_in(s, x))
 }
 
 /// An int or char variable, or a number.
 fn is_number_operand(s: &Scope, e: &Operand) -> bool
-    ensures { result ≡ number_operand s.entry.now.program.now s.entry.now.proc.now e.now }
+    ensures { result ≡ spec.is_number_operand s.entry.now.program.now s.entry.now.proc.now e.now }
 {
     match e {
         Operand::Var(x) => is_number(s, x),
@@ -114,7 +114,7 @@ fn is_number_operand(s: &Scope, e: &Operand) -> bool
 }
 
 fn is_ptr_operand(s: &Scope, e: &Operand) -> bool
-    ensures { result ≡ ptr_operand s.entry.now.program.now s.entry.now.proc.now e.now }
+    ensures { result ≡ spec.is_ptr_operand s.entry.now.program.now s.entry.now.proc.now e.now }
 {
     match e {
         Operand::Var(x) => is_ptr(s, x),
@@ -124,7 +124,7 @@ fn is_ptr_operand(s: &Scope, e: &Operand) -> bool
 
 /// A char variable, or a number that it can hold.
 fn is_char_operand(s: &Scope, e: &Operand) -> bool
-    ensures { result ≡ char_operand s.entry.now.program.now s.entry.now.proc.now e.now }
+    ensures { result ≡ spec.is_char_operand s.entry.now.program.now s.entry.now.proc.now e.now }
 {
     match e {
         Operand::Var(x) => means_char(meant_in(s, x)),
@@ -133,7 +133,7 @@ fn is_char_operand(s: &Scope, e: &Operand) -> bool
 }
 
 fn is_pptr_operand(s: &Scope, e: &Operand) -> bool
-    ensures { result ≡ pptr_operand s.entry.now.program.now s.entry.now.proc.now e.now }
+    ensures { result ≡ spec.is_pptr_operand s.entry.now.program.now s.entry.now.proc.now e.now }
 {
     match e {
         Operand::Var(x) => means_pptr(meant_in(s, x)),
@@ -142,7 +142,7 @@ fn is_pptr_operand(s: &Scope, e: &Operand) -> bool
 }
 
 fn is_iptr_operand(s: &Scope, e: &Operand) -> bool
-    ensures { result ≡ iptr_operand s.entry.now.program.now s.entry.now.proc.now e.now }
+    ensures { result ≡ spec.is_iptr_operand s.entry.now.program.now s.entry.now.proc.now e.now }
 {
     match e {
         Operand::Var(x) => means_iptr(meant_in(s, x)),
@@ -152,7 +152,7 @@ fn is_iptr_operand(s: &Scope, e: &Operand) -> bool
 
 /// Whether a formal of the kind takes the argument.
 fn takes(s: &Scope, kind: VarKind, a: &AnyOperand) -> bool
-    ensures { result ≡ takes_of s.entry.now.program.now s.entry.now.proc.now kind a.now }
+    ensures { result ≡ spec.takes s.entry.now.program.now s.entry.now.proc.now kind a.now }
 {
     match a {
         AnyOperand::Operand(e) => match kind {
@@ -173,14 +173,14 @@ fn takes(s: &Scope, kind: VarKind, a: &AnyOperand) -> bool
 }
 
 fn is_equality(r: Rel) -> bool
-    ensures { result ≡ equality r }
+    ensures { result ≡ spec.is_equality r }
 {
     matches!(r, Rel::Eq | Rel::Ne)
 }
 
 /// Whether `p = q`, or `p = null`, has its kinds.
 fn copies(s: &Scope, p: &Bytes, q: &Option<Bytes>) -> bool
-    ensures { result ≡ copies_of s.entry.now.program.now s.entry.now.proc.now p.now q.now }
+    ensures { result ≡ spec.copies s.entry.now.program.now s.entry.now.proc.now p.now q.now }
 {
     let to = meant_in(s, p);
     match q {
@@ -191,7 +191,7 @@ fn copies(s: &Scope, p: &Bytes, q: &Option<Bytes>) -> bool
 
 /// Whether `put w, e` has its kinds.
 fn puts(s: &Scope, w: &Bytes, e: &AnyOperand) -> bool
-    ensures { result ≡ puts_of s.entry.now.program.now s.entry.now.proc.now w.now e.now }
+    ensures { result ≡ spec.puts s.entry.now.program.now s.entry.now.proc.now w.now e.now }
 {
     let to = meant_in(s, w);
     match e {
@@ -203,7 +203,7 @@ fn puts(s: &Scope, w: &Bytes, e: &AnyOperand) -> bool
 
 /// Whether a comparison has its kinds.
 fn compares(s: &Scope, left: &Operand, r: Rel, right: &AnyOperand) -> bool
-    ensures { result ≡ compares_of s.entry.now.program.now s.entry.now.proc.now left.now r right.now }
+    ensures { result ≡ spec.compares s.entry.now.program.now s.entry.now.proc.now left.now r right.now }
 {
     let equality = is_equality(r);
     let pointer = is_ptr_operand(s, left);
@@ -220,7 +220,7 @@ fn compares(s: &Scope, left: &Operand, r: Rel, right: &AnyOperand) -> bool
 
 /// Whether the destination of a call takes the result.
 fn receives(s: &Scope, answer: ResultKind, into: &Option<Bytes>) -> bool
-    ensures { result ≡ receives_of s.entry.now.program.now s.entry.now.proc.now answer into.now }
+    ensures { result ≡ spec.receives s.entry.now.program.now s.entry.now.proc.now answer into.now }
 {
     match into {
         None => true,
@@ -235,7 +235,7 @@ fn receives(s: &Scope, answer: ResultKind, into: &Option<Bytes>) -> bool
 
 /// Whether an argument that has no formal is a variable, a number or null.
 fn is_argument(s: &Scope, e: &AnyOperand) -> bool
-    ensures { result ≡ argument s.entry.now.program.now s.entry.now.proc.now e.now }
+    ensures { result ≡ spec.is_argument s.entry.now.program.now s.entry.now.proc.now e.now }
 {
     match e {
         AnyOperand::Null => true,
@@ -249,7 +249,7 @@ fn is_argument(s: &Scope, e: &AnyOperand) -> bool
 
 /// Whether arguments that have no formals are variables, numbers or null.
 fn are_arguments(s: &Scope, args: &[AnyOperand]) -> bool
-    ensures { result ≡ takes_each_of s.entry.now.program.now s.entry.now.proc.now [] args.now }
+    ensures { result ≡ spec.takes_each s.entry.now.program.now s.entry.now.proc.now [] args.now }
 {
     match args {
         [] => true,
@@ -263,7 +263,7 @@ fn are_arguments(s: &Scope, args: &[AnyOperand]) -> bool
 
 /// Whether each argument that has a formal is of its kind.
 fn formals_take(s: &Scope, formals: &[Formal], args: &[AnyOperand]) -> bool
-    ensures { result ≡ takes_each_of s.entry.now.program.now s.entry.now.proc.now (map (λ x. x.kind) formals.now) args.now }
+    ensures { result ≡ spec.takes_each s.entry.now.program.now s.entry.now.proc.now (map (λ x. x.kind) formals.now) args.now }
 {
     match args {
         [] => true,
@@ -280,7 +280,7 @@ fn formals_take(s: &Scope, formals: &[Formal], args: &[AnyOperand]) -> bool
 
 /// Whether the first argument, if there is one, is a number.
 fn int_takes(s: &Scope, args: &[AnyOperand]) -> bool
-    ensures { result ≡ takes_each_of s.entry.now.program.now s.entry.now.proc.now (kinds_of_built_in BuiltIn.Malloc) args.now }
+    ensures { result ≡ spec.takes_each s.entry.now.program.now s.entry.now.proc.now (kinds_of_built_in BuiltIn.Malloc) args.now }
 {
     match args {
         [] => true,
@@ -294,7 +294,7 @@ fn int_takes(s: &Scope, args: &[AnyOperand]) -> bool
 
 /// Whether the arguments of a built-in procedure are of its kinds.
 fn built_in_takes(s: &Scope, callee: BuiltIn, args: &[AnyOperand]) -> bool
-    ensures { result ≡ takes_each_of s.entry.now.program.now s.entry.now.proc.now (kinds_of_built_in callee) args.now }
+    ensures { result ≡ spec.takes_each s.entry.now.program.now s.entry.now.proc.now (kinds_of_built_in callee) args.now }
 {
     match callee {
         BuiltIn::Malloc => int_takes(s, args),
@@ -311,7 +311,7 @@ fn calls(
     built: Option<BuiltIn>,
     callee: Option<&Proc>,
 ) -> bool
-    ensures { result ≡ calls_of s.entry.now.program.now s.entry.now.proc.now into.now args.now built (option_copied callee.entry) }
+    ensures { result ≡ spec.calls s.entry.now.program.now s.entry.now.proc.now into.now args.now built (option_copied callee.entry) }
 {
     match built {
         Some(b) => {
@@ -332,7 +332,7 @@ fn calls(
 
 /// Whether the procedure may return the value.
 fn returns_kind(s: &Scope, answer: ResultKind, value: &Option<AnyOperand>) -> bool
-    ensures { result ≡ returns_kind_of s.entry.now.program.now s.entry.now.proc.now answer value.now }
+    ensures { result ≡ spec.returns_kind s.entry.now.program.now s.entry.now.proc.now answer value.now }
 {
     match value {
         None => matches!(answer, ResultKind::Void),
@@ -346,7 +346,7 @@ fn returns_kind(s: &Scope, answer: ResultKind, value: &Option<AnyOperand>) -> bo
 }
 
 fn number_from(s: &Scope, x: &Bytes, e: &Operand) -> bool
-    ensures { result ≡ (number_meant (meant_in_of s.entry.now.program.now s.entry.now.proc.now x.now) && number_operand s.entry.now.program.now s.entry.now.proc.now e.now) }
+    ensures { result ≡ (spec.means_number (meant_in_of s.entry.now.program.now s.entry.now.proc.now x.now) && spec.is_number_operand s.entry.now.program.now s.entry.now.proc.now e.now) }
 {
     let to = is_number(s, x);
     let from = is_number_operand(s, e);
@@ -354,7 +354,7 @@ fn number_from(s: &Scope, x: &Bytes, e: &Operand) -> bool
 }
 
 fn number_from_two(s: &Scope, x: &Bytes, e: &Operand, f: &Operand) -> bool
-    ensures { result ≡ (number_meant (meant_in_of s.entry.now.program.now s.entry.now.proc.now x.now) && number_operand s.entry.now.program.now s.entry.now.proc.now e.now && number_operand s.entry.now.program.now s.entry.now.proc.now f.now) }
+    ensures { result ≡ (spec.means_number (meant_in_of s.entry.now.program.now s.entry.now.proc.now x.now) && spec.is_number_operand s.entry.now.program.now s.entry.now.proc.now e.now && spec.is_number_operand s.entry.now.program.now s.entry.now.proc.now f.now) }
 {
     let first = number_from(s, x, e);
     let second = is_number_operand(s, f);
@@ -362,7 +362,7 @@ fn number_from_two(s: &Scope, x: &Bytes, e: &Operand, f: &Operand) -> bool
 }
 
 fn shifts(s: &Scope, p: &Bytes, q: &Bytes, e: &Operand) -> bool
-    ensures { result ≡ (ptr_meant (meant_in_of s.entry.now.program.now s.entry.now.proc.now p.now) && ptr_meant (meant_in_of s.entry.now.program.now s.entry.now.proc.now q.now) && number_operand s.entry.now.program.now s.entry.now.proc.now e.now) }
+    ensures { result ≡ (spec.means_ptr (meant_in_of s.entry.now.program.now s.entry.now.proc.now p.now) && spec.means_ptr (meant_in_of s.entry.now.program.now s.entry.now.proc.now q.now) && spec.is_number_operand s.entry.now.program.now s.entry.now.proc.now e.now) }
 {
     let to = is_ptr(s, p);
     let from = is_ptr(s, q);
@@ -371,7 +371,7 @@ fn shifts(s: &Scope, p: &Bytes, q: &Bytes, e: &Operand) -> bool
 }
 
 fn loads(s: &Scope, x: &Bytes, p: &Bytes) -> bool
-    ensures { result ≡ (number_meant (meant_in_of s.entry.now.program.now s.entry.now.proc.now x.now) && ptr_meant (meant_in_of s.entry.now.program.now s.entry.now.proc.now p.now)) }
+    ensures { result ≡ (spec.means_number (meant_in_of s.entry.now.program.now s.entry.now.proc.now x.now) && spec.means_ptr (meant_in_of s.entry.now.program.now s.entry.now.proc.now p.now)) }
 {
     let to = is_number(s, x);
     let from = is_ptr(s, p);
@@ -379,7 +379,7 @@ fn loads(s: &Scope, x: &Bytes, p: &Bytes) -> bool
 }
 
 fn stores(s: &Scope, p: &Bytes, e: &Operand) -> bool
-    ensures { result ≡ (ptr_meant (meant_in_of s.entry.now.program.now s.entry.now.proc.now p.now) && number_operand s.entry.now.program.now s.entry.now.proc.now e.now) }
+    ensures { result ≡ (spec.means_ptr (meant_in_of s.entry.now.program.now s.entry.now.proc.now p.now) && spec.is_number_operand s.entry.now.program.now s.entry.now.proc.now e.now) }
 {
     let to = is_ptr(s, p);
     let from = is_number_operand(s, e);
@@ -387,7 +387,7 @@ fn stores(s: &Scope, p: &Bytes, e: &Operand) -> bool
 }
 
 fn differs(s: &Scope, x: &Bytes, p: &Bytes, q: &Bytes) -> bool
-    ensures { result ≡ (number_meant (meant_in_of s.entry.now.program.now s.entry.now.proc.now x.now) && ptr_meant (meant_in_of s.entry.now.program.now s.entry.now.proc.now p.now) && ptr_meant (meant_in_of s.entry.now.program.now s.entry.now.proc.now q.now)) }
+    ensures { result ≡ (spec.means_number (meant_in_of s.entry.now.program.now s.entry.now.proc.now x.now) && spec.means_ptr (meant_in_of s.entry.now.program.now s.entry.now.proc.now p.now) && spec.means_ptr (meant_in_of s.entry.now.program.now s.entry.now.proc.now q.now)) }
 {
     let first = loads(s, x, p);
     let second = is_ptr(s, q);
@@ -396,7 +396,7 @@ fn differs(s: &Scope, x: &Bytes, p: &Bytes, q: &Bytes) -> bool
 
 /// Whether what a statement names has the kinds that the statement asks for.
 pub(crate) fn has_kinds(s: &Scope, form: &Form) -> bool
-    ensures { result ≡ has_kinds_of s.entry.now.program.now s.entry.now.proc.now form.now }
+    ensures { result ≡ spec.has_kinds s.entry.now.program.now s.entry.now.proc.now form.now }
 {
     match form {
         Form::Assign { x, e } => number_from(s, x, e),
@@ -436,7 +436,7 @@ pub(crate) fn has_kinds(s: &Scope, form: &Form) -> bool
 
 /// Whether there is an argument for each formal.
 fn counts(args: &[AnyOperand], built: Option<BuiltIn>, callee: Option<&Proc>) -> bool
-    ensures { result ≡ counts_of args.now built (option_copied callee.entry) }
+    ensures { result ≡ spec.counts args.now built (option_copied callee.entry) }
 {
     match built {
         Some(BuiltIn::Malloc) => args.len() == 1,
@@ -451,7 +451,7 @@ fn counts(args: &[AnyOperand], built: Option<BuiltIn>, callee: Option<&Proc>) ->
 
 /// Whether a call has an argument for each formal.
 pub(crate) fn has_count(s: &Scope, form: &Form) -> bool
-    ensures { result ≡ has_count_of s.entry.now.program.now form.now }
+    ensures { result ≡ spec.has_count s.entry.now.program.now form.now }
 {
     match form {
         Form::Call { f, args, .. } => counts(args.as_slice(), built_in(f.as_slice()), called(s, f)),

@@ -2,7 +2,7 @@
 ghost use Rattle.std.specs.Prelude.{◌≡◌, ◌||◌, bytes_eq};
 ghost use Rattle.std.specs.List.{list_any};
 ghost use Rattle.std.specs.Option.{option_copied};
-ghost use Rattle.cv_core.specs.Named.{calls_unknown as calls_unknown_of, calls_unlisted as calls_unlisted_of, fails as fails_of, fails_in_any as any_fails, fails_in_atom as atom_fails, fails_in_contract as contract_fails, fails_in_form as form_fails, fails_in_item as item_fails, fails_in_lin as lin_fails, fails_in_maybe as maybe_fails, fails_in_maybe_term as maybe_term_fails, fails_in_operand as operand_fails, fails_in_pointer as pointer_fails, fails_in_term as term_fails, fails_in_value as value_fails, mentions_unknown as mentions_unknown_of, mentions_unlisted as mentions_unlisted_of, names_unknown as names_unknown_of, names_unlisted as names_unlisted_of, uses_unlisted as uses_unlisted_of};
+ghost use Rattle.cv_core.specs.Named as spec;
 
 use crate::names::{BuiltIn, built_in};
 use crate::program::{
@@ -23,7 +23,7 @@ pub(crate) enum NameFault {
 }
 
 fn fails(s: &Scope, fault: NameFault, name: &Bytes) -> bool
-    ensures { result ≡ fails_of s.entry.now.program.now s.entry.now.proc.now fault name.now }
+    ensures { result ≡ spec.fails s.entry.now.program.now s.entry.now.proc.now fault name.now }
 {
     match fault {
         NameFault::Unknown => meant_in(s, name).is_none(),
@@ -36,7 +36,7 @@ fn fails(s: &Scope, fault: NameFault, name: &Bytes) -> bool
 }
 
 fn fails_in_maybe(s: &Scope, fault: NameFault, name: &Option<Bytes>) -> bool
-    ensures { result ≡ maybe_fails s.entry.now.program.now s.entry.now.proc.now fault name.now }
+    ensures { result ≡ spec.fails_in_maybe s.entry.now.program.now s.entry.now.proc.now fault name.now }
 {
     match name {
         None => false,
@@ -45,7 +45,7 @@ fn fails_in_maybe(s: &Scope, fault: NameFault, name: &Option<Bytes>) -> bool
 }
 
 fn fails_in_operand(s: &Scope, fault: NameFault, e: &Operand) -> bool
-    ensures { result ≡ operand_fails s.entry.now.program.now s.entry.now.proc.now fault e.now }
+    ensures { result ≡ spec.fails_in_operand s.entry.now.program.now s.entry.now.proc.now fault e.now }
 {
     match e {
         Operand::Var(x) => fails(s, fault, x),
@@ -54,7 +54,7 @@ fn fails_in_operand(s: &Scope, fault: NameFault, e: &Operand) -> bool
 }
 
 fn fails_in_any(s: &Scope, fault: NameFault, e: &AnyOperand) -> bool
-    ensures { result ≡ any_fails s.entry.now.program.now s.entry.now.proc.now fault e.now }
+    ensures { result ≡ spec.fails_in_any s.entry.now.program.now s.entry.now.proc.now fault e.now }
 {
     match e {
         AnyOperand::Operand(e) => fails_in_operand(s, fault, e),
@@ -63,7 +63,7 @@ fn fails_in_any(s: &Scope, fault: NameFault, e: &AnyOperand) -> bool
 }
 
 fn fails_in_value(s: &Scope, fault: NameFault, e: &Option<AnyOperand>) -> bool
-    ensures { result ≡ value_fails s.entry.now.program.now s.entry.now.proc.now fault e.now }
+    ensures { result ≡ spec.fails_in_value s.entry.now.program.now s.entry.now.proc.now fault e.now }
 {
     match e {
         None => false,
@@ -72,13 +72,13 @@ fn fails_in_value(s: &Scope, fault: NameFault, e: &Option<AnyOperand>) -> bool
 }
 
 fn fails_in_args(s: &Scope, fault: NameFault, args: &[AnyOperand]) -> bool
-    ensures { result ≡ list_any (any_fails s.entry.now.program.now s.entry.now.proc.now fault) args.now }
+    ensures { result ≡ list_any (spec.fails_in_any s.entry.now.program.now s.entry.now.proc.now fault) args.now }
 {
     args.iter().any(|a| fails_in_any(s, fault, a))
 }
 
 fn either_fails(s: &Scope, fault: NameFault, x: &Bytes, y: &Bytes) -> bool
-    ensures { result ≡ (fails_of s.entry.now.program.now s.entry.now.proc.now fault x.now || fails_of s.entry.now.program.now s.entry.now.proc.now fault y.now) }
+    ensures { result ≡ (spec.fails s.entry.now.program.now s.entry.now.proc.now fault x.now || spec.fails s.entry.now.program.now s.entry.now.proc.now fault y.now) }
 {
     let first = fails(s, fault, x);
     let second = fails(s, fault, y);
@@ -86,7 +86,7 @@ fn either_fails(s: &Scope, fault: NameFault, x: &Bytes, y: &Bytes) -> bool
 }
 
 fn fails_with_operand(s: &Scope, fault: NameFault, x: &Bytes, e: &Operand) -> bool
-    ensures { result ≡ (fails_of s.entry.now.program.now s.entry.now.proc.now fault x.now || operand_fails s.entry.now.program.now s.entry.now.proc.now fault e.now) }
+    ensures { result ≡ (spec.fails s.entry.now.program.now s.entry.now.proc.now fault x.now || spec.fails_in_operand s.entry.now.program.now s.entry.now.proc.now fault e.now) }
 {
     let first = fails(s, fault, x);
     let second = fails_in_operand(s, fault, e);
@@ -94,7 +94,7 @@ fn fails_with_operand(s: &Scope, fault: NameFault, x: &Bytes, e: &Operand) -> bo
 }
 
 fn fails_with_operands(s: &Scope, fault: NameFault, x: &Bytes, e: &Operand, f: &Operand) -> bool
-    ensures { result ≡ (fails_of s.entry.now.program.now s.entry.now.proc.now fault x.now || operand_fails s.entry.now.program.now s.entry.now.proc.now fault e.now || operand_fails s.entry.now.program.now s.entry.now.proc.now fault f.now) }
+    ensures { result ≡ (spec.fails s.entry.now.program.now s.entry.now.proc.now fault x.now || spec.fails_in_operand s.entry.now.program.now s.entry.now.proc.now fault e.now || spec.fails_in_operand s.entry.now.program.now s.entry.now.proc.now fault f.now) }
 {
     let first = fails_with_operand(s, fault, x, e);
     let second = fails_in_operand(s, fault, f);
@@ -102,7 +102,7 @@ fn fails_with_operands(s: &Scope, fault: NameFault, x: &Bytes, e: &Operand, f: &
 }
 
 fn fails_with_maybe(s: &Scope, fault: NameFault, x: &Bytes, y: &Option<Bytes>) -> bool
-    ensures { result ≡ (fails_of s.entry.now.program.now s.entry.now.proc.now fault x.now || maybe_fails s.entry.now.program.now s.entry.now.proc.now fault y.now) }
+    ensures { result ≡ (spec.fails s.entry.now.program.now s.entry.now.proc.now fault x.now || spec.fails_in_maybe s.entry.now.program.now s.entry.now.proc.now fault y.now) }
 {
     let first = fails(s, fault, x);
     let second = fails_in_maybe(s, fault, y);
@@ -110,7 +110,7 @@ fn fails_with_maybe(s: &Scope, fault: NameFault, x: &Bytes, y: &Option<Bytes>) -
 }
 
 fn fails_with_any(s: &Scope, fault: NameFault, x: &Bytes, e: &AnyOperand) -> bool
-    ensures { result ≡ (fails_of s.entry.now.program.now s.entry.now.proc.now fault x.now || any_fails s.entry.now.program.now s.entry.now.proc.now fault e.now) }
+    ensures { result ≡ (spec.fails s.entry.now.program.now s.entry.now.proc.now fault x.now || spec.fails_in_any s.entry.now.program.now s.entry.now.proc.now fault e.now) }
 {
     let first = fails(s, fault, x);
     let second = fails_in_any(s, fault, e);
@@ -118,7 +118,7 @@ fn fails_with_any(s: &Scope, fault: NameFault, x: &Bytes, e: &AnyOperand) -> boo
 }
 
 fn fails_with_shift(s: &Scope, fault: NameFault, p: &Bytes, q: &Bytes, e: &Operand) -> bool
-    ensures { result ≡ (fails_of s.entry.now.program.now s.entry.now.proc.now fault p.now || fails_of s.entry.now.program.now s.entry.now.proc.now fault q.now || operand_fails s.entry.now.program.now s.entry.now.proc.now fault e.now) }
+    ensures { result ≡ (spec.fails s.entry.now.program.now s.entry.now.proc.now fault p.now || spec.fails s.entry.now.program.now s.entry.now.proc.now fault q.now || spec.fails_in_operand s.entry.now.program.now s.entry.now.proc.now fault e.now) }
 {
     let first = either_fails(s, fault, p, q);
     let second = fails_in_operand(s, fault, e);
@@ -126,7 +126,7 @@ fn fails_with_shift(s: &Scope, fault: NameFault, p: &Bytes, q: &Bytes, e: &Opera
 }
 
 fn some_of_three_fails(s: &Scope, fault: NameFault, x: &Bytes, p: &Bytes, q: &Bytes) -> bool
-    ensures { result ≡ (fails_of s.entry.now.program.now s.entry.now.proc.now fault x.now || fails_of s.entry.now.program.now s.entry.now.proc.now fault p.now || fails_of s.entry.now.program.now s.entry.now.proc.now fault q.now) }
+    ensures { result ≡ (spec.fails s.entry.now.program.now s.entry.now.proc.now fault x.now || spec.fails s.entry.now.program.now s.entry.now.proc.now fault p.now || spec.fails s.entry.now.program.now s.entry.now.proc.now fault q.now) }
 {
     let first = either_fails(s, fault, x, p);
     let second = fails(s, fault, q);
@@ -134,7 +134,7 @@ fn some_of_three_fails(s: &Scope, fault: NameFault, x: &Bytes, p: &Bytes, q: &By
 }
 
 fn fails_in_comparison(s: &Scope, fault: NameFault, e: &Operand, f: &AnyOperand) -> bool
-    ensures { result ≡ (operand_fails s.entry.now.program.now s.entry.now.proc.now fault e.now || any_fails s.entry.now.program.now s.entry.now.proc.now fault f.now) }
+    ensures { result ≡ (spec.fails_in_operand s.entry.now.program.now s.entry.now.proc.now fault e.now || spec.fails_in_any s.entry.now.program.now s.entry.now.proc.now fault f.now) }
 {
     let first = fails_in_operand(s, fault, e);
     let second = fails_in_any(s, fault, f);
@@ -142,7 +142,7 @@ fn fails_in_comparison(s: &Scope, fault: NameFault, e: &Operand, f: &AnyOperand)
 }
 
 fn fails_in_call(s: &Scope, fault: NameFault, into: &Option<Bytes>, args: &List<AnyOperand>) -> bool
-    ensures { result ≡ (maybe_fails s.entry.now.program.now s.entry.now.proc.now fault into.now || list_any (any_fails s.entry.now.program.now s.entry.now.proc.now fault) args.now) }
+    ensures { result ≡ (spec.fails_in_maybe s.entry.now.program.now s.entry.now.proc.now fault into.now || list_any (spec.fails_in_any s.entry.now.program.now s.entry.now.proc.now fault) args.now) }
 {
     let first = fails_in_maybe(s, fault, into);
     let second = fails_in_args(s, fault, args.as_slice());
@@ -151,7 +151,7 @@ fn fails_in_call(s: &Scope, fault: NameFault, into: &Option<Bytes>, args: &List<
 
 /// Whether some variable or object that the statement names is wrong.
 fn fails_in_form(s: &Scope, fault: NameFault, form: &Form) -> bool
-    ensures { result ≡ form_fails s.entry.now.program.now s.entry.now.proc.now fault form.now }
+    ensures { result ≡ spec.fails_in_form s.entry.now.program.now s.entry.now.proc.now fault form.now }
 {
     match form {
         Form::Assign { x, e } => fails_with_operand(s, fault, x, e),
@@ -178,7 +178,7 @@ fn fails_in_form(s: &Scope, fault: NameFault, form: &Form) -> bool
 
 #[tactic(auto, using(crate::proofs::Fails::pointer_pre))]
 fn fails_in_pointer(s: &Scope, fault: NameFault, t: &PtrTerm) -> bool
-    ensures { result ≡ pointer_fails s.entry.now.program.now s.entry.now.proc.now fault t.now }
+    ensures { result ≡ spec.fails_in_pointer s.entry.now.program.now s.entry.now.proc.now fault t.now }
 {
     match t {
         PtrTerm::Name(x) => fails(s, fault, x),
@@ -190,7 +190,7 @@ fn fails_in_pointer(s: &Scope, fault: NameFault, t: &PtrTerm) -> bool
 
 #[tactic(auto, using(crate::proofs::Fails::term_pre))]
 fn fails_in_term(s: &Scope, fault: NameFault, t: &Term) -> bool
-    ensures { result ≡ term_fails s.entry.now.program.now s.entry.now.proc.now fault t.now }
+    ensures { result ≡ spec.fails_in_term s.entry.now.program.now s.entry.now.proc.now fault t.now }
 {
     match t {
         Term::Name(x) => fails(s, fault, x),
@@ -204,7 +204,7 @@ fn fails_in_term(s: &Scope, fault: NameFault, t: &Term) -> bool
 }
 
 fn fails_in_maybe_term(s: &Scope, fault: NameFault, t: &Option<Term>) -> bool
-    ensures { result ≡ maybe_term_fails s.entry.now.program.now s.entry.now.proc.now fault t.now }
+    ensures { result ≡ spec.fails_in_maybe_term s.entry.now.program.now s.entry.now.proc.now fault t.now }
 {
     match t {
         None => false,
@@ -213,7 +213,7 @@ fn fails_in_maybe_term(s: &Scope, fault: NameFault, t: &Option<Term>) -> bool
 }
 
 fn fails_in_lin(s: &Scope, fault: NameFault, parts: &List<LinPart>) -> bool
-    ensures { result ≡ lin_fails s.entry.now.program.now s.entry.now.proc.now fault parts.now }
+    ensures { result ≡ spec.fails_in_lin s.entry.now.program.now s.entry.now.proc.now fault parts.now }
 {
     parts
         .as_slice()
@@ -222,7 +222,7 @@ fn fails_in_lin(s: &Scope, fault: NameFault, parts: &List<LinPart>) -> bool
 }
 
 fn fails_in_pointers(s: &Scope, fault: NameFault, p: &PtrTerm, q: &PtrTerm) -> bool
-    ensures { result ≡ (pointer_fails s.entry.now.program.now s.entry.now.proc.now fault p.now || pointer_fails s.entry.now.program.now s.entry.now.proc.now fault q.now) }
+    ensures { result ≡ (spec.fails_in_pointer s.entry.now.program.now s.entry.now.proc.now fault p.now || spec.fails_in_pointer s.entry.now.program.now s.entry.now.proc.now fault q.now) }
 {
     let first = fails_in_pointer(s, fault, p);
     let second = fails_in_pointer(s, fault, q);
@@ -230,7 +230,7 @@ fn fails_in_pointers(s: &Scope, fault: NameFault, p: &PtrTerm, q: &PtrTerm) -> b
 }
 
 fn fails_in_lins(s: &Scope, fault: NameFault, left: &List<LinPart>, right: &List<LinPart>) -> bool
-    ensures { result ≡ (lin_fails s.entry.now.program.now s.entry.now.proc.now fault left.now || lin_fails s.entry.now.program.now s.entry.now.proc.now fault right.now) }
+    ensures { result ≡ (spec.fails_in_lin s.entry.now.program.now s.entry.now.proc.now fault left.now || spec.fails_in_lin s.entry.now.program.now s.entry.now.proc.now fault right.now) }
 {
     let first = fails_in_lin(s, fault, left);
     let second = fails_in_lin(s, fault, right);
@@ -238,7 +238,7 @@ fn fails_in_lins(s: &Scope, fault: NameFault, left: &List<LinPart>, right: &List
 }
 
 fn fails_in_atom(s: &Scope, fault: NameFault, a: &Atom) -> bool
-    ensures { result ≡ atom_fails s.entry.now.program.now s.entry.now.proc.now fault a.now }
+    ensures { result ≡ spec.fails_in_atom s.entry.now.program.now s.entry.now.proc.now fault a.now }
 {
     match a {
         Atom::Null { ptr, .. } => fails_in_pointer(s, fault, ptr),
@@ -252,13 +252,13 @@ fn fails_in_atom(s: &Scope, fault: NameFault, a: &Atom) -> bool
 }
 
 fn fails_in_atoms(s: &Scope, fault: NameFault, atoms: &List<Atom>) -> bool
-    ensures { result ≡ list_any (atom_fails s.entry.now.program.now s.entry.now.proc.now fault) atoms.now }
+    ensures { result ≡ list_any (spec.fails_in_atom s.entry.now.program.now s.entry.now.proc.now fault) atoms.now }
 {
     atoms.as_slice().iter().any(|a| fails_in_atom(s, fault, a))
 }
 
 fn fails_in_gives(s: &Scope, fault: NameFault, gives: &List<List<Atom>>) -> bool
-    ensures { result ≡ list_any (list_any (atom_fails s.entry.now.program.now s.entry.now.proc.now fault)) gives.now }
+    ensures { result ≡ list_any (list_any (spec.fails_in_atom s.entry.now.program.now s.entry.now.proc.now fault)) gives.now }
 {
     gives
         .as_slice()
@@ -267,7 +267,7 @@ fn fails_in_gives(s: &Scope, fault: NameFault, gives: &List<List<Atom>>) -> bool
 }
 
 fn fails_in_item(s: &Scope, fault: NameFault, i: &Item) -> bool
-    ensures { result ≡ item_fails s.entry.now.program.now s.entry.now.proc.now fault i.now }
+    ensures { result ≡ spec.fails_in_item s.entry.now.program.now s.entry.now.proc.now fault i.now }
 {
     match i {
         Item::Body(p) => fails_in_pointer(s, fault, p),
@@ -277,20 +277,20 @@ fn fails_in_item(s: &Scope, fault: NameFault, i: &Item) -> bool
 }
 
 fn fails_in_items(s: &Scope, fault: NameFault, items: &List<Item>) -> bool
-    ensures { result ≡ list_any (item_fails s.entry.now.program.now s.entry.now.proc.now fault) items.now }
+    ensures { result ≡ list_any (spec.fails_in_item s.entry.now.program.now s.entry.now.proc.now fault) items.now }
 {
     items.as_slice().iter().any(|i| fails_in_item(s, fault, i))
 }
 
 fn fails_in_names(s: &Scope, fault: NameFault, names: &List<Bytes>) -> bool
-    ensures { result ≡ list_any (fails_of s.entry.now.program.now s.entry.now.proc.now fault) names.now }
+    ensures { result ≡ list_any (spec.fails s.entry.now.program.now s.entry.now.proc.now fault) names.now }
 {
     names.as_slice().iter().any(|x| fails(s, fault, x))
 }
 
 /// Whether some name in the contract is wrong.
 fn fails_in_contract(s: &Scope, fault: NameFault, c: &Contract) -> bool
-    ensures { result ≡ contract_fails s.entry.now.program.now s.entry.now.proc.now fault c.now }
+    ensures { result ≡ spec.fails_in_contract s.entry.now.program.now s.entry.now.proc.now fault c.now }
 {
     let listed = fails_in_names(s, fault, &c.listed);
     let needs = fails_in_atoms(s, fault, &c.needs);
@@ -301,7 +301,7 @@ fn fails_in_contract(s: &Scope, fault: NameFault, c: &Contract) -> bool
 
 /// Whether the statement calls a procedure that isn't there.
 fn calls_unknown(s: &Scope, form: &Form) -> bool
-    ensures { result ≡ calls_unknown_of s.entry.now.program.now form.now }
+    ensures { result ≡ spec.calls_unknown s.entry.now.program.now form.now }
 {
     match form {
         Form::Call { f, .. } => {
@@ -314,7 +314,7 @@ fn calls_unknown(s: &Scope, form: &Form) -> bool
 }
 
 fn uses_unlisted(s: &Scope, built: Option<BuiltIn>, callee: Option<&Proc>) -> bool
-    ensures { result ≡ uses_unlisted_of s.entry.now.program.now s.entry.now.proc.now built (option_copied callee.entry) }
+    ensures { result ≡ spec.uses_unlisted s.entry.now.program.now s.entry.now.proc.now built (option_copied callee.entry) }
 {
     match built {
         Some(_) => false,
@@ -327,7 +327,7 @@ fn uses_unlisted(s: &Scope, built: Option<BuiltIn>, callee: Option<&Proc>) -> bo
 
 /// Whether the statement calls a procedure that uses a global which isn't listed.
 fn calls_unlisted(s: &Scope, form: &Form) -> bool
-    ensures { result ≡ calls_unlisted_of s.entry.now.program.now s.entry.now.proc.now form.now }
+    ensures { result ≡ spec.calls_unlisted s.entry.now.program.now s.entry.now.proc.now form.now }
 {
     match form {
         Form::Call { f, .. } => uses_unlisted(s, built_in(f.as_slice()), called(s, f)),
@@ -337,7 +337,7 @@ fn calls_unlisted(s: &Scope, form: &Form) -> bool
 
 /// Whether the statement names what isn't there.
 pub(crate) fn names_unknown(s: &Scope, form: &Form) -> bool
-    ensures { result ≡ names_unknown_of s.entry.now.program.now s.entry.now.proc.now form.now }
+    ensures { result ≡ spec.names_unknown s.entry.now.program.now s.entry.now.proc.now form.now }
 {
     let names = fails_in_form(s, NameFault::Unknown, form);
     let calls = calls_unknown(s, form);
@@ -346,7 +346,7 @@ pub(crate) fn names_unknown(s: &Scope, form: &Form) -> bool
 
 /// Whether the statement names a global that isn't listed, or calls what uses one.
 pub(crate) fn names_unlisted(s: &Scope, form: &Form) -> bool
-    ensures { result ≡ names_unlisted_of s.entry.now.program.now s.entry.now.proc.now form.now }
+    ensures { result ≡ spec.names_unlisted s.entry.now.program.now s.entry.now.proc.now form.now }
 {
     let names = fails_in_form(s, NameFault::Unlisted, form);
     let calls = calls_unlisted(s, form);
@@ -355,14 +355,14 @@ pub(crate) fn names_unlisted(s: &Scope, form: &Form) -> bool
 
 /// Whether the contract names what is neither a formal nor a global.
 pub(crate) fn mentions_unknown(s: &Scope) -> bool
-    ensures { result ≡ mentions_unknown_of s.entry.now.program.now s.entry.now.proc.now }
+    ensures { result ≡ spec.mentions_unknown s.entry.now.program.now s.entry.now.proc.now }
 {
     fails_in_contract(s, NameFault::Unmentioned, &s.proc.contract)
 }
 
 /// Whether the contract names a global that isn't listed.
 pub(crate) fn mentions_unlisted(s: &Scope) -> bool
-    ensures { result ≡ mentions_unlisted_of s.entry.now.program.now s.entry.now.proc.now }
+    ensures { result ≡ spec.mentions_unlisted s.entry.now.program.now s.entry.now.proc.now }
 {
     fails_in_contract(s, NameFault::Unlisted, &s.proc.contract)
 }

@@ -1,7 +1,7 @@
 //! What the names of a program stand for.
 ghost use Rattle.std.specs.Prelude.{◌≡◌, bytes_eq};
 ghost use Rattle.std.specs.List.{find};
-ghost use Rattle.cv_core.specs.Meant.{formal_meant as formal_meant_of, meant_by_global as by_global, meant_by_local as by_local};
+ghost use Rattle.cv_core.specs.Meant as spec;
 
 use crate::program::{Formal, GlobalBody, LocalBody, VarKind};
 
@@ -15,7 +15,7 @@ pub(crate) enum Meant {
 }
 
 pub(crate) fn meant_by_local(body: LocalBody) -> Meant
-    ensures { result ≡ by_local body }
+    ensures { result ≡ spec.meant_by_local body }
 {
     match body {
         LocalBody::Var(kind) => Meant::Variable(kind),
@@ -26,7 +26,7 @@ pub(crate) fn meant_by_local(body: LocalBody) -> Meant
 }
 
 pub(crate) fn meant_by_global(body: GlobalBody) -> Meant
-    ensures { result ≡ by_global body }
+    ensures { result ≡ spec.meant_by_global body }
 {
     match body {
         GlobalBody::Buffer(_) => Meant::Buffer,
@@ -37,7 +37,7 @@ pub(crate) fn meant_by_global(body: GlobalBody) -> Meant
 
 /// What the name of a formal stands for.
 pub(crate) fn formal_meant(formals: &[Formal], name: &[u8]) -> Option<Meant>
-    ensures { result ≡ formal_meant_of formals.now name.now }
+    ensures { result ≡ spec.formal_meant formals.now name.now }
 {
     match formals.iter().find(|f| f.name.as_slice() == name) {
         None => None,

@@ -1,7 +1,7 @@
 //! The rules that are tested at each place of a program, in their order.
 ghost use Rattle.std.specs.Prelude.{◌≡◌, ◌≤◌, length, slice_get};
 ghost use Rattle.std.specs.List.{list_any};
-ghost use Rattle.cv_core.specs.Shape.{calls_main as calls_main_of, contract_tests as contract_tests_of, end_tests as end_tests_of, global_tests as global_tests_of, has_body as has_body_of, has_main as has_main_of, heading_tests as heading_tests_of, is_within as within, jumps_within as jumps_within_of, literal_tests as literal_tests_of, local_tests as local_tests_of, may_end as may_end_of, standing, statement_tests as statement_tests_of, test as test_of};
+ghost use Rattle.cv_core.specs.Shape as spec;
 
 use crate::faults::ShapeRule;
 use crate::names::{is_main, stmts_of};
@@ -21,14 +21,14 @@ pub(crate) struct RuleTest {
 }
 
 fn test(rule: ShapeRule, stands: bool) -> RuleTest
-    ensures { result ≡ test_of rule stands }
+    ensures { result ≡ spec.test rule stands }
 {
     RuleTest { rule, stands }
 }
 
 /// The first rule that stands.
 pub(crate) fn first_standing(tests: &[RuleTest]) -> Option<ShapeRule>
-    ensures { result ≡ slice_get (standing tests.now) 0 }
+    ensures { result ≡ slice_get (spec.standing tests.now) 0 }
 {
     match tests {
         [] => None,
@@ -43,14 +43,14 @@ pub(crate) fn first_standing(tests: &[RuleTest]) -> Option<ShapeRule>
 }
 
 fn is_within(f: &Proc, to: u32) -> bool
-    ensures { result ≡ within f.now to }
+    ensures { result ≡ spec.is_within f.now to }
 {
     (to as usize) < stmts_of(f).len()
 }
 
 /// Whether a jump goes to a statement of its procedure.
 fn jumps_within(f: &Proc, form: &Form) -> bool
-    ensures { result ≡ jumps_within_of f.now form.now }
+    ensures { result ≡ spec.jumps_within f.now form.now }
 {
     match form {
         Form::Goto(to) => is_within(f, *to),
@@ -62,13 +62,13 @@ fn jumps_within(f: &Proc, form: &Form) -> bool
 
 /// Whether a body may end with the statement.
 fn may_end(form: &Form) -> bool
-    ensures { result ≡ may_end_of form.now }
+    ensures { result ≡ spec.may_end form.now }
 {
     matches!(form, Form::Return(_) | Form::Goto(_))
 }
 
 fn calls_main(form: &Form) -> bool
-    ensures { result ≡ calls_main_of form.now }
+    ensures { result ≡ spec.calls_main form.now }
 {
     match form {
         Form::Call { f, .. } => is_main(f.as_slice()),
@@ -77,14 +77,14 @@ fn calls_main(form: &Form) -> bool
 }
 
 pub(crate) fn global_tests(p: &Program) -> [RuleTest; 1]
-    ensures { result ≡ global_tests_of p.now }
+    ensures { result ≡ spec.global_tests p.now }
 {
     let twice = global_twice(p);
     [test(ShapeRule::DoubleName, twice)]
 }
 
 pub(crate) fn literal_tests(n: &Names) -> [RuleTest; 1]
-    ensures { result ≡ literal_tests_of n.entry.now.program.now }
+    ensures { result ≡ spec.literal_tests n.entry.now.program.now }
 {
     let twice = literal_twice(n);
     [test(ShapeRule::DoubleName, twice)]
@@ -93,7 +93,7 @@ pub(crate) fn literal_tests(n: &Names) -> [RuleTest; 1]
 /// The rules at the heading of the procedure of this number, its formals with it.
 pub(crate) fn heading_tests(n: &Names, number: usize, f: &Proc) -> [RuleTest; 4]
     requires { number ≤ length n.now.program.now.procs }
-    ensures { result ≡ heading_tests_of n.entry.now.program.now number f.now }
+    ensures { result ≡ spec.heading_tests n.entry.now.program.now number f.now }
 {
     let proc = proc_twice(n.program, number, f);
     let formal = formal_twice(n, f);
@@ -109,14 +109,14 @@ pub(crate) fn heading_tests(n: &Names, number: usize, f: &Proc) -> [RuleTest; 4]
 }
 
 fn has_body(f: &Proc) -> bool
-    ensures { result ≡ has_body_of f.now.body }
+    ensures { result ≡ spec.has_body f.now.body }
 {
     f.body.is_some()
 }
 
 /// The rules at the contract.
 pub(crate) fn contract_tests(s: &Scope) -> [RuleTest; 3]
-    ensures { result ≡ contract_tests_of s.entry.now.program.now s.entry.now.proc.now }
+    ensures { result ≡ spec.contract_tests s.entry.now.program.now s.entry.now.proc.now }
 {
     let unknown = mentions_unknown(s);
     let body = has_body(s.proc);
@@ -131,7 +131,7 @@ pub(crate) fn contract_tests(s: &Scope) -> [RuleTest; 3]
 
 /// The rules at the locals.
 pub(crate) fn local_tests(n: &Names, f: &Proc) -> [RuleTest; 1]
-    ensures { result ≡ local_tests_of n.entry.now.program.now f.now }
+    ensures { result ≡ spec.local_tests n.entry.now.program.now f.now }
 {
     let twice = local_twice(n, f);
     [test(ShapeRule::DoubleName, twice)]
@@ -139,7 +139,7 @@ pub(crate) fn local_tests(n: &Names, f: &Proc) -> [RuleTest; 1]
 
 /// The rules at a statement, the last one of its body or not.
 pub(crate) fn statement_tests(s: &Scope, last: bool, form: &Form) -> [RuleTest; 7]
-    ensures { result ≡ statement_tests_of s.entry.now.program.now s.entry.now.proc.now last form.now }
+    ensures { result ≡ spec.statement_tests s.entry.now.program.now s.entry.now.proc.now last form.now }
 {
     let unknown = names_unknown(s, form);
     let kinds = has_kinds(s, form);
@@ -160,7 +160,7 @@ pub(crate) fn statement_tests(s: &Scope, last: bool, form: &Form) -> [RuleTest; 
 }
 
 fn has_main(p: &Program) -> bool
-    ensures { result ≡ has_main_of p.now }
+    ensures { result ≡ spec.has_main p.now }
 {
     p.procs
         .as_slice()
@@ -170,7 +170,7 @@ fn has_main(p: &Program) -> bool
 
 /// The rules at the end of the program.
 pub(crate) fn end_tests(p: &Program) -> [RuleTest; 1]
-    ensures { result ≡ end_tests_of p.now }
+    ensures { result ≡ spec.end_tests p.now }
 {
     let main = has_main(p);
     [test(ShapeRule::NoMain, !main)]

@@ -1,7 +1,7 @@
 //! Look-ups of names by hash.
 ghost use Rattle.std.specs.Prelude.{◌≡◌, OnOk, IfOk, Some, bytes_eq, if◌then◌else◌};
 ghost use Rattle.std.specs.Option.{is_some, option_copied};
-ghost use Rattle.cv_core.specs.Meant.{called as called_of, global_meant as global_meant_of, is_global as global_in, literal_meant as literal_meant_of, local_meant as local_meant_of, meant_in as meant_in_of, mentioned_in as mentioned_in_of, outer_meant as outer_meant_of, own_meant as own_meant_of};
+ghost use Rattle.cv_core.specs.Meant as spec;
 ghost use Rattle.cv_core.specs.Named.{is_listed as listed_in};
 ghost use Rattle.cv_core.specs.Names.{Name, locals_of as locals_in};
 ghost use Rattle.cv_core.specs.Tables.{at_name};
@@ -20,9 +20,9 @@ pub(crate) struct Names<'a> {
     globals: IndexMap<&'a [u8], Meant>,
     literals: IndexMap<&'a [u8], Meant>,
     procs: IndexMap<&'a [u8], &'a Proc>,
-    ghost globals_are: { (x : Name) → at_name globals x ≡ global_meant_of program.now x },
-    ghost literals_are: { (x : Name) → at_name literals x ≡ literal_meant_of program.now x },
-    ghost procs_are: { (x : Name) → option_copied (at_name procs x) ≡ called_of program.now x },
+    ghost globals_are: { (x : Name) → at_name globals x ≡ spec.global_meant program.now x },
+    ghost literals_are: { (x : Name) → at_name literals x ≡ spec.literal_meant program.now x },
+    ghost procs_are: { (x : Name) → option_copied (at_name procs x) ≡ spec.called program.now x },
 }
 
 /// A procedure of a program with its names.
@@ -34,7 +34,7 @@ pub(crate) struct Scope<'a> {
     locals: IndexMap<&'a [u8], Meant>,
     listed: IndexMap<&'a [u8], bool>,
     ghost names_are: { names.now.program.now ≡ program.now },
-    ghost locals_are: { (x : Name) → at_name locals x ≡ local_meant_of (locals_in proc.now.body) x },
+    ghost locals_are: { (x : Name) → at_name locals x ≡ spec.local_meant (locals_in proc.now.body) x },
     ghost listed_are: { (x : Name) → is_some (at_name listed x) ≡ listed_in proc.now x },
 }
 
@@ -62,7 +62,7 @@ fn globals_by_name<'a>(
     alloc: Global,
     p: &'a Program,
 ) -> Result<IndexMap<&'a [u8], Meant>, AllocError>
-    ensures { IfOk result (λ m. (x : Name) → at_name m x ≡ global_meant_of p.now x) }
+    ensures { IfOk result (λ m. (x : Name) → at_name m x ≡ spec.global_meant p.now x) }
 {
     let globals = p.globals.as_slice();
     let mut map = IndexMap::with_capacity(alloc, globals.len())?;
@@ -84,7 +84,7 @@ fn literals_by_name<'a>(
     alloc: Global,
     p: &'a Program,
 ) -> Result<IndexMap<&'a [u8], Meant>, AllocError>
-    ensures { IfOk result (λ m. (x : Name) → at_name m x ≡ literal_meant_of p.now x) }
+    ensures { IfOk result (λ m. (x : Name) → at_name m x ≡ spec.literal_meant p.now x) }
 {
     let literals = p.literals.as_slice();
     let mut map = IndexMap::with_capacity(alloc, literals.len())?;
@@ -102,7 +102,7 @@ fn locals_by_name<'a>(
     alloc: Global,
     locals: &'a [Local],
 ) -> Result<IndexMap<&'a [u8], Meant>, AllocError>
-    ensures { IfOk result (λ m. (x : Name) → at_name m x ≡ local_meant_of locals.now x) }
+    ensures { IfOk result (λ m. (x : Name) → at_name m x ≡ spec.local_meant locals.now x) }
 {
     let mut map = IndexMap::with_capacity(alloc, locals.len())?;
     let mut at = locals.len();
@@ -134,7 +134,7 @@ fn procs_by_name<'a>(
     alloc: Global,
     p: &'a Program,
 ) -> Result<IndexMap<&'a [u8], &'a Proc>, AllocError>
-    ensures { IfOk result (λ m. (x : Name) → option_copied (at_name m x) ≡ called_of p.now x) }
+    ensures { IfOk result (λ m. (x : Name) → option_copied (at_name m x) ≡ spec.called p.now x) }
 {
     let procs = p.procs.as_slice();
     let mut map = IndexMap::with_capacity(alloc, procs.len())?;
@@ -185,21 +185,21 @@ pub(crate) fn scope_of<'a>(
 
 /// What the name of a global stands for.
 fn global_meant(n: &Names, name: &[u8]) -> Option<Meant>
-    ensures { result ≡ global_meant_of n.entry.now.program.now name.now }
+    ensures { result ≡ spec.global_meant n.entry.now.program.now name.now }
 {
     look(&n.globals, name)
 }
 
 /// What the name of a literal stands for.
 pub(crate) fn literal_meant(n: &Names, name: &[u8]) -> Option<Meant>
-    ensures { result ≡ literal_meant_of n.entry.now.program.now name.now }
+    ensures { result ≡ spec.literal_meant n.entry.now.program.now name.now }
 {
     look(&n.literals, name)
 }
 
 /// What the name of a global or literal stands for.
 pub(crate) fn outer_meant(n: &Names, name: &[u8]) -> Option<Meant>
-    ensures { result ≡ outer_meant_of n.entry.now.program.now name.now }
+    ensures { result ≡ spec.outer_meant n.entry.now.program.now name.now }
 {
     match global_meant(n, name) {
         Some(meant) => Some(meant),
@@ -209,20 +209,20 @@ pub(crate) fn outer_meant(n: &Names, name: &[u8]) -> Option<Meant>
 
 /// The first procedure of a name.
 fn proc_named<'a>(n: &Names<'a>, name: &Bytes) -> Option<&'a Proc>
-    ensures { option_copied result ≡ called_of n.entry.now.program.now name.now }
+    ensures { option_copied result ≡ spec.called n.entry.now.program.now name.now }
 {
     look(&n.procs, name.as_slice())
 }
 
 fn local_meant(s: &Scope, name: &[u8]) -> Option<Meant>
-    ensures { result ≡ local_meant_of (locals_in s.entry.now.proc.now.body) name.now }
+    ensures { result ≡ spec.local_meant (locals_in s.entry.now.proc.now.body) name.now }
 {
     look(&s.locals, name)
 }
 
 /// What a name of the procedure itself stands for.
 fn own_meant(s: &Scope, name: &[u8]) -> Option<Meant>
-    ensures { result ≡ own_meant_of s.entry.now.proc.now name.now }
+    ensures { result ≡ spec.own_meant s.entry.now.proc.now name.now }
 {
     match formal_meant(s.proc.formals.as_slice(), name) {
         Some(meant) => Some(meant),
@@ -231,20 +231,20 @@ fn own_meant(s: &Scope, name: &[u8]) -> Option<Meant>
 }
 
 fn outer_in(s: &Scope, name: &[u8]) -> Option<Meant>
-    ensures { result ≡ outer_meant_of s.entry.now.program.now name.now }
+    ensures { result ≡ spec.outer_meant s.entry.now.program.now name.now }
 {
     outer_meant(s.names, name)
 }
 
 fn global_meant_in(s: &Scope, name: &[u8]) -> Option<Meant>
-    ensures { result ≡ global_meant_of s.entry.now.program.now name.now }
+    ensures { result ≡ spec.global_meant s.entry.now.program.now name.now }
 {
     global_meant(s.names, name)
 }
 
 /// What a name stands for in the body of the procedure.
 pub(crate) fn meant_in(s: &Scope, name: &Bytes) -> Option<Meant>
-    ensures { result ≡ meant_in_of s.entry.now.program.now s.entry.now.proc.now name.now }
+    ensures { result ≡ spec.meant_in s.entry.now.program.now s.entry.now.proc.now name.now }
 {
     match own_meant(s, name.as_slice()) {
         Some(meant) => Some(meant),
@@ -254,7 +254,7 @@ pub(crate) fn meant_in(s: &Scope, name: &Bytes) -> Option<Meant>
 
 /// What a name stands for in the contract of the procedure.
 pub(crate) fn mentioned_in(s: &Scope, name: &Bytes) -> Option<Meant>
-    ensures { result ≡ mentioned_in_of s.entry.now.program.now s.entry.now.proc.now name.now }
+    ensures { result ≡ spec.mentioned_in s.entry.now.program.now s.entry.now.proc.now name.now }
 {
     match formal_meant(s.proc.formals.as_slice(), name.as_slice()) {
         Some(meant) => Some(meant),
@@ -264,7 +264,7 @@ pub(crate) fn mentioned_in(s: &Scope, name: &Bytes) -> Option<Meant>
 
 /// Whether a name is that of a global.
 pub(crate) fn is_global(s: &Scope, name: &Bytes) -> bool
-    ensures { result ≡ global_in s.entry.now.program.now name.now }
+    ensures { result ≡ spec.is_global s.entry.now.program.now name.now }
 {
     global_meant_in(s, name.as_slice()).is_some()
 }
@@ -278,7 +278,7 @@ pub(crate) fn is_listed(s: &Scope, name: &Bytes) -> bool
 
 /// The first procedure of a name.
 pub(crate) fn called<'a>(s: &Scope<'a>, name: &Bytes) -> Option<&'a Proc>
-    ensures { option_copied result ≡ called_of s.entry.now.program.now name.now }
+    ensures { option_copied result ≡ spec.called s.entry.now.program.now name.now }
 {
     proc_named(s.names, name)
 }

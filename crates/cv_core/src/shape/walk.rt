@@ -1,7 +1,7 @@
 //! The first fault of a program, place by place.
 ghost use Rattle.std.specs.Prelude.{◌≡◌, ◌≤◌, IfOk, length, slice_get};
 ghost use Rattle.std.specs.Option.{option_or};
-ghost use Rattle.cv_core.specs.Shape.{body_faults, contract_tests as contract_tests_of, heading_tests as heading_tests_of, local_tests as local_tests_of, fault_number as fault_number_of, faults_at, faults_nowhere, first_fault as first_fault_of, is_last as last_of, proc_faults, procs_faults, statement_tests as statement_tests_of};
+ghost use Rattle.cv_core.specs.Shape as spec;
 
 use crate::faults::{ShapeFault, ShapeRule};
 use crate::names::stmts_of;
@@ -15,7 +15,7 @@ use std::alloc::{AllocError, Global};
 
 /// The number of a procedure as a fault can have it.
 fn fault_number(proc: usize) -> u32
-    ensures { result ≡ fault_number_of proc }
+    ensures { result ≡ spec.fault_number proc }
 {
     if proc < 4294967295 {
         proc as u32
@@ -27,7 +27,7 @@ fn fault_number(proc: usize) -> u32
 /// The first fault of a place in the procedure of this number.
 #[tactic(auto, using(crate::proofs::Firsts::first_map))]
 fn first_at(proc: usize, line: u32, tests: &[RuleTest]) -> Option<ShapeFault>
-    ensures { result ≡ slice_get (faults_at proc line tests.now) 0 }
+    ensures { result ≡ slice_get (spec.faults_at proc line tests.now) 0 }
 {
     match first_standing(tests) {
         None => None,
@@ -42,7 +42,7 @@ fn first_at(proc: usize, line: u32, tests: &[RuleTest]) -> Option<ShapeFault>
 /// The first fault of a place in no procedure.
 #[tactic(auto, using(crate::proofs::Firsts::first_map))]
 fn first_nowhere(tests: &[RuleTest]) -> Option<ShapeFault>
-    ensures { result ≡ slice_get (faults_nowhere tests.now) 0 }
+    ensures { result ≡ slice_get (spec.faults_nowhere tests.now) 0 }
 {
     match first_standing(tests) {
         None => None,
@@ -65,7 +65,7 @@ fn first_of(first: Option<ShapeFault>, second: Option<ShapeFault>) -> Option<Sha
 }
 
 fn is_last(rest: &[Stmt]) -> bool
-    ensures { result ≡ last_of rest.now }
+    ensures { result ≡ spec.is_last rest.now }
 {
     match rest {
         [] => true,
@@ -75,14 +75,14 @@ fn is_last(rest: &[Stmt]) -> bool
 
 /// The first fault of a statement, the last one of its body or not.
 fn first_in_statement(s: &Scope, proc: usize, last: bool, stmt: &Stmt) -> Option<ShapeFault>
-    ensures { result ≡ slice_get (faults_at proc stmt.now.line (statement_tests_of s.entry.now.program.now s.entry.now.proc.now last stmt.now.form)) 0 }
+    ensures { result ≡ slice_get (spec.faults_at proc stmt.now.line (spec.statement_tests s.entry.now.program.now s.entry.now.proc.now last stmt.now.form)) 0 }
 {
     first_at(proc, stmt.line, &statement_tests(s, last, &stmt.form))
 }
 
 /// The first fault of statements up to the last of their body.
 fn first_in_body(s: &Scope, proc: usize, stmts: &[Stmt]) -> Option<ShapeFault>
-    ensures { result ≡ slice_get (body_faults s.entry.now.program.now proc s.entry.now.proc.now stmts.now) 0 }
+    ensures { result ≡ slice_get (spec.body_faults s.entry.now.program.now proc s.entry.now.proc.now stmts.now) 0 }
 {
     let mut rest = stmts;
     while let [stmt, tail @ ..] = rest {
@@ -98,7 +98,7 @@ fn first_in_body(s: &Scope, proc: usize, stmts: &[Stmt]) -> Option<ShapeFault>
 /// The first fault of the heading, the contract and the locals of the procedure of this number.
 fn first_in_heading(s: &Scope, proc: usize) -> Option<ShapeFault>
     requires { proc ≤ length s.now.program.now.procs }
-    ensures { result ≡ option_or (slice_get (faults_at proc s.entry.now.proc.now.line (heading_tests_of s.entry.now.program.now proc s.entry.now.proc.now)) 0) (option_or (slice_get (faults_at proc s.entry.now.proc.now.line (contract_tests_of s.entry.now.program.now s.entry.now.proc.now)) 0) (slice_get (faults_at proc s.entry.now.proc.now.line (local_tests_of s.entry.now.program.now s.entry.now.proc.now)) 0)) }
+    ensures { result ≡ option_or (slice_get (spec.faults_at proc s.entry.now.proc.now.line (spec.heading_tests s.entry.now.program.now proc s.entry.now.proc.now)) 0) (option_or (slice_get (spec.faults_at proc s.entry.now.proc.now.line (spec.contract_tests s.entry.now.program.now s.entry.now.proc.now)) 0) (slice_get (spec.faults_at proc s.entry.now.proc.now.line (spec.local_tests s.entry.now.program.now s.entry.now.proc.now)) 0)) }
 {
     let line = s.proc.line;
     let heading = first_at(proc, line, &heading_tests(s.names, proc, s.proc));
@@ -110,7 +110,7 @@ fn first_in_heading(s: &Scope, proc: usize) -> Option<ShapeFault>
 /// The first fault of the procedure of this number.
 fn first_in_proc(s: &Scope, proc: usize) -> Option<ShapeFault>
     requires { proc ≤ length s.now.program.now.procs }
-    ensures { result ≡ slice_get (proc_faults s.entry.now.program.now proc s.entry.now.proc.now) 0 }
+    ensures { result ≡ slice_get (spec.proc_faults s.entry.now.program.now proc s.entry.now.proc.now) 0 }
 {
     match first_in_heading(s, proc) {
         None => first_in_body(s, proc, stmts_of(s.proc)),
@@ -120,7 +120,7 @@ fn first_in_proc(s: &Scope, proc: usize) -> Option<ShapeFault>
 
 /// The first fault of the procedures.
 fn first_in_procs(alloc: Global, names: &Names) -> Result<Option<ShapeFault>, AllocError>
-    ensures { IfOk result (λ r. r ≡ slice_get (procs_faults names.entry.now.program.now 0 names.entry.now.program.now.procs) 0) }
+    ensures { IfOk result (λ r. r ≡ slice_get (spec.procs_faults names.entry.now.program.now 0 names.entry.now.program.now.procs) 0) }
 {
     let p = names.program;
     let mut rest = p.procs.as_slice();
@@ -139,7 +139,7 @@ fn first_in_procs(alloc: Global, names: &Names) -> Result<Option<ShapeFault>, Al
 
 /// The first fault of the program with these names.
 fn first_in_named(alloc: Global, names: &Names) -> Result<Option<ShapeFault>, AllocError>
-    ensures { IfOk result (λ r. r ≡ first_fault_of names.entry.now.program.now) }
+    ensures { IfOk result (λ r. r ≡ spec.first_fault names.entry.now.program.now) }
 {
     let globals = first_nowhere(&global_tests(names.program));
     let literals = first_nowhere(&literal_tests(names));
@@ -154,7 +154,7 @@ fn first_in_named(alloc: Global, names: &Names) -> Result<Option<ShapeFault>, Al
 
 /// The first fault of a program, in the order of its places and, at each place, of the rules.
 pub(crate) fn first_fault(alloc: Global, p: &Program) -> Result<Option<ShapeFault>, AllocError>
-    ensures { IfOk result (λ r. r ≡ first_fault_of p.now) }
+    ensures { IfOk result (λ r. r ≡ spec.first_fault p.now) }
 {
     let names = names_of(alloc, p)?;
     let fault = first_in_named(alloc, &names)?;
