@@ -7,7 +7,7 @@ use Rattle.std.proofs.lemmas.Slice.Eq.{bytes_eq-Decides}
 use Rattle.std.specs.List.{list_any, list_all, take_while, prefix_len}
 use Rattle.cv_core.specs.Grammar.{is_letter, is_digit}
 use Rattle.cv_lex.specs.Bytes.{is_newline, is_word_byte, is_hex_digit, is_escape, run, begins, byte_at}
-use Rattle.cv_lex.specs.Parts.{Fits, begun, character_length, close_from, closes, comment, double_signs, is_plain, is_single, marked, number, part_or, plain, quote_from, sign, sized}
+use Rattle.cv_lex.specs.Parts.{Fits, begun, character_length, close_from, closes, comment, double_signs, is_hexadecimal, is_plain, is_single, marked, number, part_or, plain, quote_from, sign, sized}
 use Rattle.cv_lex.specs.declared.begin.Front.{Front}
 use Rattle.cv_lex.specs.declared.begin.Front.TheVariants as front
 use Rattle.cv_lex.specs.declared.token.LexRule.{LexRule}
@@ -120,8 +120,8 @@ sized_fits : (text : List ℕ) (v n : ℕ) → 0 < n → n ≤ length text → F
 sized_fits text v n h k = if_fits text (nat_lt (2 ^ 31) v) (front.Broken rule.WideNumber) (front.Part kind.Number n) (λ e. tt) (λ e. (h, k))
 
 number_fits : (c : ℕ) (cs : List ℕ) → is_digit c ≡ true → Fits (c ∷ cs) (number (c ∷ cs))
-number_fits c cs h = if_fits (c ∷ cs) (begins (c ∷ cs) (codes "0x")) _ _
-    (λ e. sized_fits (c ∷ cs) _ (2 + run is_hex_digit (drop 2 (c ∷ cs))) (omega arith) (omega (arith, begun_within (c ∷ cs) (codes "0x") e, run_within is_hex_digit (drop 2 (c ∷ cs)), length-drop 2 (c ∷ cs))))
+number_fits c cs h = if_fits (c ∷ cs) (is_hexadecimal (c ∷ cs)) _ _
+    (λ e. sized_fits (c ∷ cs) _ (2 + run is_hex_digit (drop 2 (c ∷ cs))) (omega arith) (omega (arith, begun_within (c ∷ cs) (codes "0x") ((both (begins (c ∷ cs) (codes "0x")) _ e).0), run_within is_hex_digit (drop 2 (c ∷ cs)), length-drop 2 (c ∷ cs))))
     (λ e. sized_fits (c ∷ cs) _ (run is_digit (c ∷ cs)) (run_is_long is_digit c cs h) (run_within is_digit (c ∷ cs)))
 
 sign_fits : (c : ℕ) (cs : List ℕ) → Fits (c ∷ cs) (sign c (c ∷ cs))

@@ -4,7 +4,7 @@
 -- A reader of CoreC takes `--`, `+=`, `-=`, `&&` and `||` for their two bytes, one sign each, and refuses `++` as a whole. That gives the
 -- tokens of CoreC wherever a text of it can go on, since none has `=` behind a `+` or a `-`, nor two `&` or two `|` in a row; `x = y--5;`
 -- is the one text of it with such a sign. It refuses a number that begins with `0x` and each comment, text, character and `#` line.
--- A reader of C refuses a word at its first `$`, a number with leading zeros, and a number that is `0x` alone.
+-- A reader of C refuses a word at its first `$` and a number with leading zeros.
 use Rattle.std.specs.Prelude.{ℕ, suc, ◌+◌, ◌<◌, ◌≤◌, ◌^◌, Bool, true, false, not, ◌&&◌, ◌||◌, if◌then◌else◌, nat_eq, nat_lt, List, [], ◌∷◌, codes, drop, length, take_while, Option, Some, None}
 use Rattle.std.specs.List.{list_any}
 use Rattle.cv_core.specs.Grammar.{is_letter, is_digit}
@@ -69,9 +69,12 @@ character text = part_or kind.Character rule.OpenText (character_length text)
 abbrev pub sized : ℕ → ℕ → Front
 sized value n = if nat_lt (2 ^ 31) value then front.Broken rule.WideNumber else front.Part kind.Number n
 
--- digits, or `0x` and hexadecimal digits, maybe none
+abbrev pub is_hexadecimal : List ℕ → Bool
+is_hexadecimal text = begins text (codes "0x") && is_hex_digit (byte_at text 2)
+
+-- digits, or `0x` and hexadecimal digits; `0x` without one is the number 0, and a word comes after it
 abbrev pub number : List ℕ → Front
-number text = if begins text (codes "0x") then sized (value_of 16 (take_while is_hex_digit (drop 2 text))) (2 + run is_hex_digit (drop 2 text))
+number text = if is_hexadecimal text then sized (value_of 16 (take_while is_hex_digit (drop 2 text))) (2 + run is_hex_digit (drop 2 text))
     else sized (value_of 10 (take_while is_digit text)) (run is_digit text)
 
 -- ---- signs

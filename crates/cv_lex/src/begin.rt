@@ -7,7 +7,8 @@ ghost use Rattle.cv_lex.specs.Parts as part;
 ghost use Rattle.cv_lex.specs.Parts.{Fits};
 
 use crate::bytes::{
-    digits_in_front, hex_digits_in_front, is_letter, line_bytes, word_bytes_in_front,
+    byte, digits_in_front, hex_digits_in_front, is_hex_digit, is_letter, line_bytes,
+    word_bytes_in_front,
 };
 use crate::number::{WIDE, value_up_to_wide};
 use crate::quoted::{character_bytes, comment_end, text_end};
@@ -43,7 +44,7 @@ fn sized(value: u64, len: usize) -> Front
 fn number(text: &[u8]) -> Front
     ensures front { result ≡ part.number text.now }
 {
-    if text.starts_with(b"0x") {
+    if text.starts_with(b"0x") && is_hex_digit(byte(text, 2)) {
         let digits = &text[2..];
         let len = hex_digits_in_front(digits);
         return sized(value_up_to_wide(16, &digits[..len]), 2 + len);

@@ -2,7 +2,7 @@
 
 ghost use Rattle.std.specs.Prelude.{◌≡◌, ◌<◌, ◌≤◌, ◌^◌, ◌+◌, length, drop, take};
 ghost use Rattle.std.specs.List.{count_by};
-ghost use Rattle.cv_lex.specs.Bytes.{is_newline, is_blank as blank, run};
+ghost use Rattle.cv_lex.specs.Bytes as spec;
 ghost use Rattle.cv_lex.specs.Tokens.{begun_at, first_answer, line_at, starts_line as starts, tokens_from, without_first};
 ghost use Rattle.cv_lex.specs.Given.{IsSlice, OnNone, OnToken, end_of, piece_of, seen};
 ghost use Rattle.cv_lex.specs.Parts.{Fits};
@@ -34,7 +34,7 @@ impl<'a> Model for Lexer<'a> {
 /// How many newlines there are.
 fn newlines(text: &[u8]) -> u32
     requires { length text.now ≤ 4294967294 }
-    ensures count { result ≡ count_by is_newline text.now }
+    ensures count { result ≡ count_by spec.is_newline text.now }
     ensures within { result ≤ length text.now }
 {
     text.iter().filter(|c| **c == b'\n').count() as u32
@@ -74,7 +74,7 @@ fn front_at(source: &[u8], at: usize) -> Front
 /// The place of the first byte at or behind another that is no blank, or the end.
 fn past_blanks(source: &[u8], from: usize) -> usize
     requires { from ≤ length source.now }
-    ensures place { result ≡ from + run blank (drop from source.now) }
+    ensures place { result ≡ from + spec.run spec.is_blank (drop from source.now) }
     ensures within { result ≤ length source.now }
 {
     from + blanks_in_front(&source[from..])

@@ -1,14 +1,14 @@
 //! Comments, texts and characters: where they end.
 
 ghost use Rattle.std.specs.Prelude.{◌≡◌, ◌+◌, ◌≤◌, ◌<◌, ◌^◌, IfSome, false, true, length, drop};
-ghost use Rattle.cv_lex.specs.Parts.{character_length, close_from, closes as comment_closes, quote_from};
+ghost use Rattle.cv_lex.specs.Parts as spec;
 
 use crate::bytes::{byte, is_escape};
 
 /// A `*` before a `/`.
 #[tactic(auto, unfolding(crate::specs::Parts::closes))]
 fn closes(first: u8, behind: &[u8]) -> bool
-    ensures value { result ≡ comment_closes first behind.now }
+    ensures value { result ≡ spec.closes first behind.now }
     ensures within { result ≡ true → 1 ≤ length behind.now }
 {
     match behind {
@@ -24,7 +24,7 @@ fn closes(first: u8, behind: &[u8]) -> bool
 /// The place behind the first `*/`, of which the first byte is at 2 or behind.
 pub fn comment_end(text: &[u8]) -> Option<usize>
     requires { 2 ≤ length text.now }
-    ensures end { result ≡ close_from 2 (drop 2 text.now) }
+    ensures end { result ≡ spec.close_from 2 (drop 2 text.now) }
     ensures within { IfSome result (λ n. n ≤ length text.now) }
 {
     let mut at = 2;
@@ -42,7 +42,7 @@ pub fn comment_end(text: &[u8]) -> Option<usize>
 /// The place behind the quote that closes a text whose first byte is the opening one.
 pub fn text_end(text: &[u8]) -> Option<usize>
     requires { 1 ≤ length text.now }
-    ensures end { result ≡ quote_from false 1 (drop 1 text.now) }
+    ensures end { result ≡ spec.quote_from false 1 (drop 1 text.now) }
     ensures within { IfSome result (λ n. n ≤ length text.now) }
 {
     let mut at = 1;
@@ -71,7 +71,7 @@ pub fn text_end(text: &[u8]) -> Option<usize>
 
 /// How many bytes a character has whose first byte is the opening quote.
 pub fn character_bytes(text: &[u8]) -> Option<usize>
-    ensures end { result ≡ character_length text.now }
+    ensures end { result ≡ spec.character_length text.now }
     ensures within { IfSome result (λ n. n ≤ length text.now) }
 {
     let first = byte(text, 1);

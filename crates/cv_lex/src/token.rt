@@ -5,7 +5,7 @@
 pub enum TokenKind {
     /// A letter, `_` or `$`, and the letters, digits, `_` and `$` behind it.
     Word,
-    /// Digits, or `0x` and the hexadecimal digits behind it; the value is at most 2147483648.
+    /// Digits, or `0x` and the hexadecimal digits behind it, at least one; the value is at most 2147483648.
     Number,
     /// A text with its quotes, `"` at both ends.
     Text,

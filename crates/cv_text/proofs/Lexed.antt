@@ -5,7 +5,7 @@ use Rattle.std.proofs.lemmas.List.Folds.{length-prefix_len}
 use Rattle.std.proofs.lemmas.Bool.Decides.{nat_tests}
 use Rattle.std.specs.List.{list_any, take_while}
 use Rattle.cv_core.specs.Grammar.{is_letter, is_digit}
-use Rattle.cv_lex.specs.Parts.{Fits, begun, marked, number, part_or, plain, sign, sized}
+use Rattle.cv_lex.specs.Parts.{Fits, begun, is_hexadecimal, marked, number, part_or, plain, sign, sized}
 use Rattle.cv_lex.specs.Tokens.{Cursor, Piece, first_answer, first_of, tokens_behind, tokens_from}
 use Rattle.cv_lex.specs.Given.{OnToken, end_of}
 use Rattle.cv_lex.specs.declared.token.Token.{Token}
@@ -80,7 +80,7 @@ sized_is text part v n = by_test (nat_lt (2 ^ 31) v)
     by_test false = refl
 
 number_is : (text part : List ℕ) → by_front text part (number part) ≡ number_lexed text
-number_is text part = by_test (begins part (codes "0x")) _ _ _ _
+number_is text part = by_test (is_hexadecimal part) _ _ _ _
   where
     by_test : (b : Bool) (v n u m : ℕ) → by_front text part (cond b (sized v n) (sized u m)) ≡ number_lexed text
     by_test true v n u m = sized_is text part v n
