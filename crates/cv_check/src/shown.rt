@@ -1,11 +1,10 @@
 //! How steps show what is owed: a goal that is direct takes none, another the next one.
-ghost use Rattle.std.specs.Prelude.{◌≡◌, ◌≤◌, ◌^◌, ◌++◌, ◌∷◌, [], length, slice_index_or, map, All, IfOk, MatchOption, Some, None};
-ghost use Rattle.std.specs.Int.RustNames.{unsigned_abs};
+ghost use Rattle.std.specs.Prelude.{◌≡◌, ◌≤◌, ◌++◌, ◌∷◌, [], length, slice_index_or, map, All, IfOk, MatchOption, Some, None};
 ghost use Rattle.std.specs.List.{flat_map};
 ghost use Rattle.cv_num.specs.Rows.{as_row};
 ghost use Rattle.cv_num.specs.Algebra.{substituted, zero_row};
 ghost use Rattle.cv_num.specs.Assigned.{IsSmallAssign};
-ghost use Rattle.cv_check.specs.Shown.{owed, is_free as is_free_of, are_plain as are_plain_of, is_plain as is_plain_of, by_step as by_step_of, shown as shown_of, all_shown};
+ghost use Rattle.cv_check.specs.Shown as spec;
 
 use crate::rows::hypotheses;
 use cv_farkas::{Step, direct, step_holds};
@@ -14,14 +13,14 @@ use std::alloc::{AllocError, Global};
 
 /// Whether the row does not name the first zero.
 fn is_free(r: &Row) -> bool
-    ensures { result ≡ is_free_of r.now }
+    ensures { result ≡ spec.is_free r.now }
 {
     r.pairs.as_slice().iter().all(|pair| pair.0 != 2)
 }
 
 /// Whether the hypothesis of a part does not name the first zero.
 fn is_free_at(hyps: &[Row], at: u32) -> bool
-    ensures { result ≡ is_free_of (slice_index_or hyps.now at zero_row) }
+    ensures { result ≡ spec.is_free (slice_index_or hyps.now at zero_row) }
 {
     match hyps.get(at as usize) {
         None => true,
@@ -31,7 +30,7 @@ fn is_free_at(hyps: &[Row], at: u32) -> bool
 
 /// Whether the parts have multiplier 1, and none is of a hypothesis that names the first zero.
 fn are_plain(hyps: &[Row], parts: &[(u32, u32)]) -> bool
-    ensures { result ≡ are_plain_of hyps.now parts.now }
+    ensures { result ≡ spec.are_plain hyps.now parts.now }
 {
     parts
         .iter()
@@ -40,7 +39,7 @@ fn are_plain(hyps: &[Row], parts: &[(u32, u32)]) -> bool
 
 /// Whether the step has the divisor 1 and one or two plain parts.
 fn is_plain(hyps: &[Row], s: &Step) -> bool
-    ensures { result ≡ is_plain_of hyps.now s.now }
+    ensures { result ≡ spec.is_plain hyps.now s.now }
 {
     let parts = s.parts.as_slice();
     let plain = are_plain(hyps, parts);
@@ -49,9 +48,7 @@ fn is_plain(hyps: &[Row], s: &Step) -> bool
 
 /// The steps that are left where the first of them is plain and shows the goal.
 fn by_step<'a>(hyps: &[Row], goal: &Wide, steps: &'a [Step]) -> Option<&'a [Step]>
-    requires pairs { All (λ p. unsigned_abs p.1 ≤ 2 ^ 102) goal.now.pairs }
-    requires constant { unsigned_abs goal.now.constant ≤ 2 ^ 102 }
-    ensures { MatchOption result (by_step_of hyps.now (as_row goal.now) steps.now ≡ None) (λ left. by_step_of hyps.now (as_row goal.now) steps.now ≡ Some left.now) }
+    ensures { MatchOption result (spec.by_step hyps.now (as_row goal.now) steps.now ≡ None) (λ left. spec.by_step hyps.now (as_row goal.now) steps.now ≡ Some left.now) }
 {
     match steps {
         [] => None,
@@ -67,9 +64,7 @@ fn by_step<'a>(hyps: &[Row], goal: &Wide, steps: &'a [Step]) -> Option<&'a [Step
 
 /// The steps that are left where the goal is direct, or the next step shows it.
 fn shown<'a>(hyps: &[Row], goal: &Wide, steps: &'a [Step]) -> Option<&'a [Step]>
-    requires pairs { All (λ p. unsigned_abs p.1 ≤ 2 ^ 102) goal.now.pairs }
-    requires constant { unsigned_abs goal.now.constant ≤ 2 ^ 102 }
-    ensures { MatchOption result (shown_of (owed hyps.now (as_row goal.now)) steps.now ≡ None) (λ left. shown_of (owed hyps.now (as_row goal.now)) steps.now ≡ Some left.now) }
+    ensures { MatchOption result (spec.shown (spec.owed hyps.now (as_row goal.now)) steps.now ≡ None) (λ left. spec.shown (spec.owed hyps.now (as_row goal.now)) steps.now ≡ Some left.now) }
 {
     if direct(hyps, goal) {
         Some(steps)
@@ -85,7 +80,7 @@ pub(crate) fn goals_shown<'a>(
     goals: &[Row],
     steps: &'a [Step],
 ) -> Result<Option<&'a [Step]>, AllocError>
-    ensures { IfOk result (λ found. MatchOption found (all_shown (map (owed hyps.now) goals.now) steps.now ≡ None) (λ left. all_shown (map (owed hyps.now) goals.now) steps.now ≡ Some left.now)) }
+    ensures { IfOk result (λ found. MatchOption found (spec.all_shown (map (spec.owed hyps.now) goals.now) steps.now ≡ None) (λ left. spec.all_shown (map (spec.owed hyps.now) goals.now) steps.now ≡ Some left.now)) }
 {
     let mut left = steps;
     let mut rest = goals;
@@ -110,7 +105,7 @@ pub(crate) fn move_shown<'a>(
 ) -> Result<Option<&'a [Step]>, AllocError>
     requires small { IsSmallAssign assign.now }
     requires few { All (λ r. length r.pairs ≤ 200) next.now }
-    ensures { IfOk result (λ found. MatchOption found (all_shown (map (λ r. owed hyps.now (substituted assign.now r)) next.now) steps.now ≡ None) (λ left. all_shown (map (λ r. owed hyps.now (substituted assign.now r)) next.now) steps.now ≡ Some left.now)) }
+    ensures { IfOk result (λ found. MatchOption found (spec.all_shown (map (λ r. spec.owed hyps.now (substituted assign.now r)) next.now) steps.now ≡ None) (λ left. spec.all_shown (map (λ r. spec.owed hyps.now (substituted assign.now r)) next.now) steps.now ≡ Some left.now)) }
 {
     let mut left = steps;
     for r in next {

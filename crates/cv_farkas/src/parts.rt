@@ -1,5 +1,5 @@
 //! The parts of a step, and the sums over them.
-ghost use Rattle.std.specs.Prelude.{◌≡◌, ◌↔◌, ◌≤◌, ◌<◌, ◌^◌, ◌-◌, ℕ, ℤ, pos, ◌+ℤ◌, ◌*ℤ◌, IsTrue, All, length};
+ghost use Rattle.std.specs.Prelude.{◌≡◌, ◌↔◌, ◌≤◌, ◌<◌, ◌^◌, ◌-◌, ℕ, ℤ, pos, ◌+ℤ◌, ◌*ℤ◌, ◌≤ℤ◌, IsTrue, All, length};
 ghost use Rattle.std.specs.Int.RustNames.{unsigned_abs};
 ghost use Rattle.cv_num.specs.Pairs.{IsCanonical, coefficient_of, IsBefore, IsFrom};
 ghost use Rattle.cv_farkas.specs.Parts.{sum_of_parts};
@@ -14,23 +14,20 @@ fn plus_multiple(sum: i128, multiplier: u32, value: i64) -> i128
     sum + i128::from(multiplier) * i128::from(value)
 }
 
-/// `d * value`.
-fn multiple(d: u32, value: i128) -> i128
-    requires divisor { d ≤ 65535 }
-    requires value { unsigned_abs value ≤ 2 ^ 102 }
-    ensures { result ≡ pos d *ℤ value }
+/// Whether `d * value` is the sum.
+fn is_multiple(d: u32, value: i128, sum: i128) -> bool
+    ensures { IsTrue result ↔ (pos d *ℤ value ≡ sum) }
 {
-    i128::from(d) * value
+    i128::from(d).checked_mul(value) == Some(sum)
 }
 
-/// `d * value + (d - 1)`, the greatest number that d divides down to `value`.
-pub(crate) fn multiple_less_one(d: u32, value: i128) -> i128
-    requires positive { 1 ≤ d }
-    requires divisor { d ≤ 65535 }
-    requires value { unsigned_abs value ≤ 2 ^ 102 }
-    ensures { result ≡ pos d *ℤ value +ℤ pos (d - 1) }
+/// Whether the sum is at most `d * value + (d - 1)`, the greatest number that d divides down to `value`.
+/// The sum is divided, so that no product can overflow.
+pub(crate) fn is_within_multiple(sum: i128, d: u32, value: i128) -> bool
+    requires { 1 ≤ d }
+    ensures { IsTrue result ↔ (sum ≤ℤ ((pos d *ℤ value) +ℤ pos (d - 1))) }
 {
-    multiple(d, value) + i128::from(d - 1)
+    sum.div_euclid(i128::from(d)) <= value
 }
 
 /// The coefficient of a variable in the sum of the parts.
@@ -90,13 +87,12 @@ pub(crate) fn balances(hyps: &[Row], parts: &[(u32, u32)], goal: &[(u32, i128)],
     requires multipliers { All (λ p. p.1 ≤ 2147483647) parts.now }
     requires few { length parts.now ≤ 4096 }
     requires canonical { IsCanonical goal.now }
-    requires divisor { d ≤ 65535 }
-    requires small { All (λ p. unsigned_abs p.1 ≤ 2 ^ 102) goal.now }
     ensures { IsTrue result ↔ ((v : ℕ) → pos d *ℤ coefficient_of goal.now v ≡ sum_of_parts (λ r. coefficient_of r.pairs v) hyps.now parts.now) }
 {
     let mut from = 0u64;
     while let Some(variable) = next_of_parts(hyps, parts, goal, from) {
-        if multiple(d, wide_coefficient(goal, variable)) != coefficient_sum(hyps, parts, variable) {
+        let sum = coefficient_sum(hyps, parts, variable);
+        if !is_multiple(d, wide_coefficient(goal, variable), sum) {
             return false;
         }
         from = u64::from(variable) + 1;

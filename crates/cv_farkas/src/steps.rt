@@ -1,6 +1,5 @@
 //! Steps of proof.
-ghost use Rattle.std.specs.Prelude.{◌≡◌, ◌↔◌, ◌≤◌, ◌<◌, ◌^◌, ℕ, ℤ, pos, ◌≤ℤ◌, IsTrue, IfOk, MatchOption, All, length, [], ◌∷◌};
-ghost use Rattle.std.specs.Int.RustNames.{unsigned_abs};
+ghost use Rattle.std.specs.Prelude.{◌≡◌, ◌↔◌, ◌≤◌, ◌<◌, ℕ, ℤ, pos, ◌≤ℤ◌, IsTrue, IfOk, MatchOption, All, length, [], ◌∷◌};
 ghost use Rattle.cv_num.specs.Pairs.{IsCanonical};
 ghost use Rattle.cv_num.specs.Rows.{as_row, row_value, wide_value};
 ghost use Rattle.cv_farkas.specs.Covers.{IsInRange, IsCovered};
@@ -8,7 +7,7 @@ ghost use Rattle.cv_farkas.specs.Proof;
 ghost use Rattle.cv_farkas.specs.Steps.{Holds, HoldsBy, IsShort, IsTwoParts, two_ascending};
 ghost use Rattle.cv_farkas.specs.declared.steps.Step.{Step};
 
-use crate::parts::{balances, constant_sum, multiple_less_one};
+use crate::parts::{balances, constant_sum, is_within_multiple};
 use crate::search::{find_sum, index_of};
 use cv_list::List;
 use cv_num::{Row, Wide};
@@ -48,17 +47,13 @@ fn is_in_range(count: usize, d: u32, parts: &[(u32, u32)]) -> bool
 fn covers(hyps: &[Row], parts: &[(u32, u32)], pairs: &[(u32, i128)], constant: i128, d: u32) -> bool
     requires range { IsInRange (length hyps.now) d parts.now }
     requires canonical { IsCanonical pairs.now }
-    requires pairs_small { All (λ p. unsigned_abs p.1 ≤ 2 ^ 102) pairs.now }
-    requires constant_small { unsigned_abs constant ≤ 2 ^ 102 }
     ensures { IsTrue result ↔ IsCovered hyps.now (record { pairs = pairs.now; constant = constant }) d parts.now }
 {
-    constant_sum(hyps, parts) <= multiple_less_one(d, constant) && balances(hyps, parts, pairs, d)
+    is_within_multiple(constant_sum(hyps, parts), d, constant) && balances(hyps, parts, pairs, d)
 }
 
 /// Whether parts and a divisor prove the goal, or a contradiction, from the hypotheses.
 fn holds(hyps: &[Row], goal: &Wide, d: u32, parts: &[(u32, u32)]) -> bool
-    requires pairs { All (λ p. unsigned_abs p.1 ≤ 2 ^ 102) goal.now.pairs }
-    requires constant { unsigned_abs goal.now.constant ≤ 2 ^ 102 }
     ensures { IsTrue result ↔ HoldsBy hyps.now goal.now d parts.now }
 {
     if !is_in_range(hyps.len(), d, parts) {
@@ -72,8 +67,6 @@ fn holds(hyps: &[Row], goal: &Wide, d: u32, parts: &[(u32, u32)]) -> bool
 
 /// Whether a step proves the goal, or a contradiction, from the hypotheses. It takes no memory.
 pub fn step_holds(hyps: &[Row], goal: &Wide, s: &Step) -> bool
-    requires pairs { All (λ p. unsigned_abs p.1 ≤ 2 ^ 102) goal.now.pairs }
-    requires constant { unsigned_abs goal.now.constant ≤ 2 ^ 102 }
     ensures holds { IsTrue result ↔ Holds hyps.now goal.now s.now }
     ensures computed { result ≡ Proof.holds hyps.now (as_row goal.now) s.now }
 {
@@ -93,9 +86,7 @@ fn plain_step(alloc: Global, parts: &[(u32, u32)]) -> Result<Step, AllocError>
 
 /// A hypothesis that proves the goal, or a contradiction, alone.
 fn lone_part(hyps: &[Row], goal: &Wide) -> Option<u32>
-    requires few { length hyps.now ≤ 4096 }
-    requires pairs { All (λ p. unsigned_abs p.1 ≤ 2 ^ 102) goal.now.pairs }
-    requires constant { unsigned_abs goal.now.constant ≤ 2 ^ 102 }
+    requires { length hyps.now ≤ 4096 }
     ensures { MatchOption result ((i : ℕ) → i < length hyps.now → ¬ (HoldsBy hyps.now goal.now 1 ((i, 1) ∷ []))) (λ i. HoldsBy hyps.now goal.now 1 ((i, 1) ∷ [])) }
 {
     let count = hyps.len() as u32;
@@ -134,8 +125,6 @@ fn pair_step(alloc: Global, first: u32, second: u32) -> Result<Step, AllocError>
 /// with the multiplier 1. None where no short step holds, and so always beyond 4096 hypotheses. An
 /// error is want of memory.
 pub fn prove(alloc: Global, hyps: &[Row], goal: &Wide) -> Result<Option<Step>, AllocError>
-    requires pairs { All (λ p. unsigned_abs p.1 ≤ 2 ^ 102) goal.now.pairs }
-    requires constant { unsigned_abs goal.now.constant ≤ 2 ^ 102 }
     ensures { IfOk result (λ found. MatchOption found ((s : Step) → IsShort s → ¬ (Holds hyps.now goal.now s)) (λ s. IsShort s × Holds hyps.now goal.now s)) }
 {
     if hyps.len() > 4096 {

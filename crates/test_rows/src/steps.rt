@@ -1,17 +1,11 @@
 //! Steps that hold and steps that do not.
-ghost use Rattle.std.specs.Prelude.{◌≤◌, ◌^◌, All, IfOk};
-ghost use Rattle.std.specs.Int.RustNames.{unsigned_abs};
-
 use cv_farkas::{Step, direct, prove, step_holds};
 use cv_list::List;
 use cv_num::{Row, Wide, row, widen};
 use std::alloc::{AllocError, Global};
 use std::test::Fail;
 
-fn wide(alloc: Global, pairs: &[(u32, i64)], constant: i64) -> Result<Wide, Fail>
-    ensures pairs { IfOk result (λ w. All (λ p. unsigned_abs p.1 ≤ 2 ^ 102) w.pairs) }
-    ensures constant { IfOk result (λ w. unsigned_abs w.constant ≤ 2 ^ 102) }
-{
+fn wide(alloc: Global, pairs: &[(u32, i64)], constant: i64) -> Result<Wide, Fail> {
     let narrow = row(alloc, pairs, constant)?;
     Ok(widen(alloc, &narrow)?)
 }
@@ -63,6 +57,30 @@ fn steps_hold_by_their_sums_and_ranges(rt: HostRuntime) -> Result<(), Fail> {
     for (constant, d, parts, expected) in &STEPS {
         let found = holds(rt.alloc(), *constant, *d, parts)?;
         assert_eq!(rt; found, *expected, "{constant} {d} {parts:?}");
+    }
+    Ok(())
+}
+
+/// Whether the hypotheses prove `x0 + constant` by a short step, and by one of the largest divisor.
+fn holds_wide(alloc: Global, constant: i128) -> Result<(bool, bool), Fail> {
+    let hyps = hypotheses(alloc)?;
+    let mut goal = wide(alloc, &[(0, 1)], 0)?;
+    goal.constant = constant;
+    let largest = step(alloc, 65535, &[(1, 65535), (2, 65535)])?;
+    let short = prove(alloc, &hyps, &goal)?;
+    Ok((short.is_some(), step_holds(&hyps, &goal, &largest)))
+}
+
+#[test]
+fn goals_have_any_size(rt: HostRuntime) -> Result<(), Fail> {
+    for (constant, expected) in [
+        (i128::MAX, true),
+        (-3, true),
+        (-4, false),
+        (i128::MIN, false),
+    ] {
+        let found = holds_wide(rt.alloc(), constant)?;
+        assert_eq!(rt; found, (expected, expected), "{constant}");
     }
     Ok(())
 }
