@@ -28,7 +28,8 @@ use Rattle.cv_interp.specs.Sound.{Keeps}
 use Rattle.cv_interp.specs.Stack.{stack_of}
 use Rattle.cv_interp.specs.Takes.{IsKept, IsReady, IsSmall}
 use Rattle.cv_interp.proofs.Leads as leads
-use Rattle.cv_interp.proofs.Limited.{few_locals, few_stmts, form_written, inside}
+use Rattle.cv_core.specs.Within.{few_locals, few_stmts}
+use Rattle.cv_interp.proofs.Limited.{form_written, inside}
 use Rattle.cv_interp.proofs.Stepped.{IsNext, Nexts, ready, step_sound}
 use Rattle.cv_interp.proofs.Typed.{fit_keeps}
 

@@ -32,3 +32,4 @@ pub mod Taking
 pub mod Passed
 pub mod Planned
 pub mod Starts
+pub mod Mains

@@ -5,7 +5,8 @@ use Rattle.std.specs.List.{find, list_any}
 use Rattle.std.proofs.lemmas.Bool.{ltb-false}
 use Rattle.std.proofs.lemmas.Option.{slice_get-get_or}
 use Rattle.cv_core.specs.Grammar.{IsBody, IsForm, IsProc, IsStmt, IsWritten}
-use Rattle.cv_core.specs.Limits.{first_limit, has_many_parts, is_passed, part_count, passes, tested, variable_count}
+use Rattle.cv_core.specs.Limits.{first_limit, has_many_parts, is_passed, part_count, passes, tested}
+use Rattle.cv_core.specs.Within.{any_at, none_at, or_first, or_second}
 use Rattle.cv_core.specs.Names.{locals_of, stmts_at, stmts_of}
 use Rattle.cv_core.specs.declared.faults.LimitName.TheVariants as limit
 use Rattle.cv_core.specs.declared.program.Program.{Program}
@@ -17,34 +18,6 @@ use Rattle.cv_core.specs.declared.program.Atom.TheVariants as atom
 use Rattle.cv_meaning.specs.Few.{AreFew, HasFewParts}
 
 -- ---- lists
-
-or_first : (a b : Bool) → (a || b) ≡ false → a ≡ false
-or_first true b e = e
-or_first false b e = refl
-
-or_second : (a b : Bool) → (a || b) ≡ false → b ≡ false
-or_second true b e = absurd (cc)
-or_second false b e = e
-
-found_first : {X : Type 0} (b : Bool) (y : X) (o : Option X) → cond b (Some y) o ≡ None → b ≡ false
-found_first true y o e = absurd (cc)
-found_first false y o e = refl
-
-found_later : {X : Type 0} (b : Bool) (y : X) (o : Option X) → cond b (Some y) o ≡ None → o ≡ None
-found_later true y o e = absurd (cc)
-found_later false y o e = e
-
-pub none_at : {X : Type 0} (p : X → Bool) (xs : List X) (i : ℕ) (x : X) → find p xs ≡ None → slice_get xs i ≡ Some x → p x ≡ false
-none_at p [] zero x e at = absurd (cc)
-none_at p [] (suc i) x e at = absurd (cc)
-none_at p (y ∷ ys) zero x e at = let same : y ≡ x = cc in ap p (sym same) ∙ found_first (p y) y (find p ys) e
-none_at p (y ∷ ys) (suc i) x e at = none_at p ys i x (found_later (p y) y (find p ys) e) at
-
-pub any_at : {X : Type 0} (p : X → Bool) (xs : List X) (i : ℕ) (x : X) → list_any p xs ≡ false → slice_get xs i ≡ Some x → p x ≡ false
-any_at p [] zero x e at = absurd (cc)
-any_at p [] (suc i) x e at = absurd (cc)
-any_at p (y ∷ ys) zero x e at = let same : y ≡ x = cc in ap p (sym same) ∙ or_first (p y) (list_any p ys) e
-any_at p (y ∷ ys) (suc i) x e at = any_at p ys i x (or_second (p y) (list_any p ys) e) at
 
 pub inside : {X : Type 0} (xs : List X) (i : ℕ) (x : X) → slice_get xs i ≡ Some x → i < length xs
 inside [] zero x e = absurd (cc)
@@ -82,21 +55,6 @@ are_few P i f e at =
       gives = all_of (list_any (λ a. passes limit.Parts (part_count a))) (All HasFewParts) f.contract.gives (or_second _ _ parts)
           (λ atoms h. all_of (λ a. passes limit.Parts (part_count a)) HasFewParts atoms h few_parts);
     }
-
-pub few_locals : (P : Program) (i : ℕ) (f : Proc) → first_limit P ≡ None → slice_get P.procs i ≡ Some f → length (locals_of f.body) ≤ 200
-few_locals P i f e at =
-    let h = ltb-false 200 (variable_count f) (any_at (λ (g : Proc). passes limit.Locals (variable_count g)) P.procs i f (none_at (is_passed P) tested 5 limit.Locals e refl) at) in
-    omega arith
-
-pub few_stmts : (P : Program) (i : ℕ) (f : Proc) → first_limit P ≡ None → slice_get P.procs i ≡ Some f → length (stmts_of f.body) ≤ 1000
-few_stmts P i f e at =
-    ltb-false 1000 (length (stmts_of f.body)) (any_at (λ (g : Proc). passes limit.Statements (length (stmts_of g.body))) P.procs i f (none_at (is_passed P) tested 6 limit.Statements e refl) at)
-
-pub few_globals : (P : Program) → first_limit P ≡ None → length P.globals ≤ 256
-few_globals P e = ltb-false 256 (length P.globals) (none_at (is_passed P) tested 1 limit.Globals e refl)
-
-pub few_literals : (P : Program) → first_limit P ≡ None → length P.literals ≤ 1024
-few_literals P e = ltb-false 1024 (length P.literals) (none_at (is_passed P) tested 2 limit.Literals e refl)
 
 -- ---- the grammar
 

@@ -28,7 +28,8 @@ use Rattle.cv_meaning.specs.Clean.{literal_objects}
 use Rattle.cv_meaning.specs.Memory.{Memory, cell_at, cell_held, cell_in}
 use Rattle.cv_meaning.specs.State.{bind, no_vars}
 use Rattle.cv_interp.proofs.Arriving.{Holds, either_holds}
-use Rattle.cv_interp.proofs.Limited.{all_at, any_at, none_at}
+use Rattle.cv_core.specs.Within.{any_at, none_at}
+use Rattle.cv_interp.proofs.Limited.{all_at}
 use Rattle.cv_interp.proofs.Memories.{IsObject, cell_of_object, some_cell}
 use Rattle.cv_interp.specs.Sound.{HasGlobals, IsFit, IsMemory, Keeps, is_cell_global, is_cell_kind}
 use Rattle.cv_interp.specs.Start.{HasFewBytes, arg_values, fit, fits_kind, global_body, global_objects, out_objects, start_memory, start_values}

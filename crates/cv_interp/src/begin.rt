@@ -1,7 +1,9 @@
 //! Where a run of main begins.
-ghost use Rattle.std.specs.Prelude.{◌≡◌, ◌+◌, ◌++◌, ◌∷◌, [], ◌≤◌, ◌<◌, ◌^◌, All, IfOk, IfSome, OnOk, OnSome, length, map, replicate, true};
+ghost use Rattle.std.specs.Prelude.{◌≡◌, ◌+◌, ◌++◌, ◌∷◌, [], ◌≤◌, ◌<◌, ◌^◌, All, IfOk, OnOk, length, map, None, replicate, true};
 ghost use Rattle.cv_core.specs.Grammar.{IsWritten};
+ghost use Rattle.cv_core.specs.Limits.{first_limit};
 ghost use Rattle.cv_core.specs.Names.{locals_of as locals_in};
+ghost use Rattle.cv_core.specs.WellFormed.{IsSoundProgram};
 ghost use Rattle.cv_meaning.specs.Clean.{literal_objects};
 ghost use Rattle.cv_meaning.specs.Look.{look};
 ghost use Rattle.cv_meaning.specs.Memory.{IsShort};
@@ -11,7 +13,7 @@ ghost use Rattle.cv_interp.specs.Entered.{IsRoom};
 ghost use Rattle.cv_interp.specs.Made.{IsMade};
 ghost use Rattle.cv_interp.specs.Plans.{slot_at as slot_at_of};
 ghost use Rattle.cv_interp.specs.Seen.{state_in};
-ghost use Rattle.cv_interp.specs.Start.{HasFewBytes, IsMain, arg_values, fit as fit_in, fits_kind as fits_kind_in, global_body as global_body_in, global_objects, out_objects, start_memory, start_values};
+ghost use Rattle.cv_interp.specs.Start as spec;
 
 use crate::entering::{furnished, make};
 use crate::plan::proc_place;
@@ -41,21 +43,25 @@ impl From<AllocError> for StartError {
     }
 }
 
-/// The number of main, and main; none also where the number is no 32-bit number.
-pub(crate) fn main_of(p: &Program) -> Option<(u32, &Proc)>
-    ensures main { IfSome result (λ m. IsMain p.now m.0 m.1.now) }
-    ensures written { OnSome result (IsWritten p.now) }
+/// The number of main, and main.
+pub(crate) fn main_of(p: &Program) -> (u32, &Proc)
+    requires formed { IsSoundProgram p.now }
+    requires limits { first_limit p.now ≡ None }
+    ensures main { spec.IsMain p.now result.0 result.1.now }
+    ensures written { IsWritten p.now }
 {
-    let i = proc_place(p.procs.as_slice(), b"main")?;
-    let main = p.procs.get(i)?;
-    match u32::try_from(i) {
-        Err(_) => None,
-        Ok(number) => Some((number, main)),
-    }
+    // A well-formed program has a main.
+    let Some(number) = proc_place(p.procs.as_slice(), b"main") else {
+        unreachable!()
+    };
+    let Some(main) = p.procs.get(number) else {
+        unreachable!()
+    };
+    (number as u32, main)
 }
 
 fn fits_kind(kind: VarKind, arg: &Arg) -> bool
-    ensures { result ≡ fits_kind_in kind arg.now }
+    ensures { result ≡ spec.fits_kind kind arg.now }
 {
     match (kind, arg) {
         (VarKind::Int, Arg::Int(_)) => true,
@@ -66,7 +72,7 @@ fn fits_kind(kind: VarKind, arg: &Arg) -> bool
 
 /// Whether there is one argument for each formal, of its kind.
 pub(crate) fn fit(formals: &[Formal], args: &[Arg]) -> bool
-    ensures { result ≡ fit_in formals.now args.now }
+    ensures { result ≡ spec.fit formals.now args.now }
 {
     match formals {
         [] => args.is_empty(),
@@ -110,7 +116,7 @@ fn zeros(alloc: Global, count: u32) -> Result<Vec<u8>, AllocError>
 }
 
 fn global_body(alloc: Global, body: GlobalBody) -> Result<Body, AllocError>
-    ensures value { IfOk result (λ b. b ≡ global_body_in body) }
+    ensures value { IfOk result (λ b. b ≡ spec.global_body body) }
     ensures short { IfOk result (λ b. IsShort b) }
 {
     match body {
@@ -135,7 +141,7 @@ fn make_globals(
 ) -> Result<u32, AllocError>
     requires { IsMade made.old }
     ensures site { IfOk result (λ next. next ≡ site + length globals.now) }
-    ensures memory { OnOk result (made.new.memory ≡ made.old.memory ++ global_objects site globals.now) }
+    ensures memory { OnOk result (made.new.memory ≡ made.old.memory ++ spec.global_objects site globals.now) }
     ensures made { OnOk result (IsMade made.new) }
 {
     match globals {
@@ -199,9 +205,9 @@ fn make_args(
     values: &mut List<Value>,
 ) -> Result<(), AllocError>
     requires made { IsMade made.old }
-    requires texts { All HasFewBytes args.now }
-    ensures memory { OnOk result (made.new.memory ≡ made.old.memory ++ out_objects args.now) }
-    ensures values { OnOk result (values.new ≡ values.old ++ arg_values (length made.old.memory) args.now) }
+    requires texts { All spec.HasFewBytes args.now }
+    ensures memory { OnOk result (made.new.memory ≡ made.old.memory ++ spec.out_objects args.now) }
+    ensures values { OnOk result (values.new ≡ values.old ++ spec.arg_values (length made.old.memory) args.now) }
     ensures made { OnOk result (IsMade made.new) }
 {
     match args {
@@ -229,9 +235,9 @@ pub(crate) fn beginning(
     args: &[Arg],
     values: &mut List<Value>,
 ) -> Result<Made, AllocError>
-    requires { All HasFewBytes args.now }
-    ensures memory { IfOk result (λ made. made.memory ≡ start_memory p.now args.now) }
-    ensures values { OnOk result (values.new ≡ values.old ++ start_values p.now args.now) }
+    requires { All spec.HasFewBytes args.now }
+    ensures memory { IfOk result (λ made. made.memory ≡ spec.start_memory p.now args.now) }
+    ensures values { OnOk result (values.new ≡ values.old ++ spec.start_values p.now args.now) }
     ensures made { IfOk result (λ made. IsMade made) }
 {
     let mut made = Made {

@@ -5,7 +5,7 @@ ghost use Rattle.cv_core.specs.Limits.{first_limit};
 ghost use Rattle.cv_core.specs.Names.{locals_of as locals_in, local_site as local_site_of, malloc_site as malloc_site_of, place_of, stmts_of as stmts_in};
 ghost use Rattle.cv_core.specs.Headings.{breaks_extern};
 ghost use Rattle.cv_core.specs.WellFormed.{IsSoundProgram};
-ghost use Rattle.cv_meaning.specs.Call.{answer_in as answer_within, first_alternative as first_alternative_in, call as call_in, call_named as call_named_in, call_proc as call_proc_in, entered, entry_turn, extern_answer as extern_answer_in, first_number as first_number_in, getchar as getchar_in, give as give_in, malloc as malloc_in, permitted as permitted_in, putchar as putchar_in, scene_of};
+ghost use Rattle.cv_meaning.specs.Call as spec;
 ghost use Rattle.cv_meaning.specs.Memory.{is_no_literal as is_no_literal_in, may_change as may_change_in};
 ghost use Rattle.cv_meaning.specs.State.{Frame, any_value as any_value_in};
 ghost use Rattle.cv_meaning.specs.declared.memory.World.{World as WorldValue};
@@ -40,7 +40,7 @@ pub(crate) fn give(
     requires at { at ≡ slot_if_of f.now into.now }
     requires slot { IsInto f.now into.now }
     requires room { IsRoom f.now room.old }
-    ensures state { (g : Frame) (w : WorldValue) (out : List ℕ) → g.proc ≡ f.now → state_in f.now w out room.new ≡ give_in p.now g into.now answer (state_in f.now w out room.old) }
+    ensures state { (g : Frame) (w : WorldValue) (out : List ℕ) → g.proc ≡ f.now → state_in f.now w out room.new ≡ spec.give p.now g into.now answer (state_in f.now w out room.old) }
     ensures room { IsRoom f.now room.new }
 {
     match into {
@@ -79,7 +79,7 @@ pub(crate) struct Site<'b> {
 }
 
 fn first_number(args: &[Value]) -> i32
-    ensures { result ≡ first_number_in args.now }
+    ensures { result ≡ spec.first_number args.now }
 {
     match args {
         [] => 0,
@@ -92,7 +92,7 @@ fn given(p: &Program, a: &Activation, site: &Site, v: Value, s: &mut Store)
     requires at { site.now.at ≡ slot_if_of a.now.proc.now site.now.into.now }
     requires slot { IsInto a.now.proc.now site.now.into.now }
     requires room { IsRoom a.now.proc.now s.old.room }
-    ensures state { state a.now.proc.now s.new ≡ give_in p.now (frame a.now) site.now.into.now (Some v) (state a.now.proc.now s.old) }
+    ensures state { state a.now.proc.now s.new ≡ spec.give p.now (frame a.now) site.now.into.now (Some v) (state a.now.proc.now s.old) }
     ensures room { IsRoom a.now.proc.now s.new.room }
 {
     give(p, a.proc, site.into, site.at, Some(v), &mut s.room);
@@ -112,7 +112,7 @@ fn malloc<'a>(
     requires room { IsRoom a.now.proc.now s.old.room }
     requires active { IsActive p.now a.now }
     requires place { site.now.k ≤ length (stmts_in a.now.proc.now.body) }
-    ensures ok { IfOk result (λ c. IsCalled a.now site.now.k (malloc_in p.now site.now.first (malloc_site_of p.now a.now.number site.now.k) (frame a.now) site.now.k site.now.into.now (state a.now.proc.now s.old)) s.old c s.new) }
+    ensures ok { IfOk result (λ c. IsCalled a.now site.now.k (spec.malloc p.now site.now.first (malloc_site_of p.now a.now.number site.now.k) (frame a.now) site.now.k site.now.into.now (state a.now.proc.now s.old)) s.old c s.new) }
     ensures err { OnErr result (IsSame s.old s.new) }
 {
     let size = site.first;
@@ -138,7 +138,7 @@ fn getchar<'a>(p: &Program, a: &Activation, site: &Site, s: &mut Store) -> Calle
     requires at { site.now.at ≡ slot_if_of a.now.proc.now site.now.into.now }
     requires slot { IsInto a.now.proc.now site.now.into.now }
     requires room { IsRoom a.now.proc.now s.old.room }
-    ensures { IsCalled a.now site.now.k (getchar_in p.now (frame a.now) site.now.k site.now.into.now (state a.now.proc.now s.old)) s.old result s.new }
+    ensures { IsCalled a.now site.now.k (spec.getchar p.now (frame a.now) site.now.k site.now.into.now (state a.now.proc.now s.old)) s.old result s.new }
 {
     let byte = byte_read(&s.world, s.room.taken);
     s.room.taken = after_byte(&s.world, s.room.taken);
@@ -155,7 +155,7 @@ fn putchar<'a>(
     requires at { site.now.at ≡ slot_if_of a.now.proc.now site.now.into.now }
     requires slot { IsInto a.now.proc.now site.now.into.now }
     requires room { IsRoom a.now.proc.now s.old.room }
-    ensures ok { IfOk result (λ c. IsCalled a.now site.now.k (putchar_in p.now site.now.first (frame a.now) site.now.k site.now.into.now (state a.now.proc.now s.old)) s.old c s.new) }
+    ensures ok { IfOk result (λ c. IsCalled a.now site.now.k (spec.putchar p.now site.now.first (frame a.now) site.now.k site.now.into.now (state a.now.proc.now s.old)) s.old c s.new) }
     ensures err { OnErr result (IsSame s.old s.new) }
 {
     let byte = low_byte(site.first);
@@ -198,7 +198,7 @@ fn all_may_change(caller: &Permit, objects: &[u64]) -> bool
 
 /// Whether the objects may be changed by a callee: Literal, Modifies.
 fn permitted(caller: &Permit, objects: &[u64]) -> Result<(), ErrKind>
-    ensures { result ≡ permitted_in caller.now objects.now (Ok tt) }
+    ensures { result ≡ spec.permitted caller.now objects.now (Ok tt) }
 {
     if !none_literal(caller, objects) {
         return Err(ErrKind::Literal);
@@ -242,7 +242,7 @@ fn bound(atoms: &[Atom], i: usize) -> i64
 
 /// The atoms of the first alternative.
 fn first_alternative(alternatives: &[List<Atom>]) -> &[Atom]
-    ensures { result.now ≡ first_alternative_in alternatives.now }
+    ensures { result.now ≡ spec.first_alternative alternatives.now }
 {
     match alternatives {
         [] => &[],
@@ -252,7 +252,7 @@ fn first_alternative(alternatives: &[List<Atom>]) -> &[Atom]
 
 /// The answer of an extern procedure.
 fn extern_answer(g: &Proc, s: &Store) -> i64
-    ensures { result ≡ answer_within (bound_by (slice_get (first_alternative_in g.now.contract.gives) 0)) (bound_by (slice_get (first_alternative_in g.now.contract.gives) 1)) (left s.now.world s.now.room.taken).answers }
+    ensures { result ≡ spec.answer_in (bound_by (slice_get (spec.first_alternative g.now.contract.gives) 0)) (bound_by (slice_get (spec.first_alternative g.now.contract.gives) 1)) (left s.now.world s.now.room.taken).answers }
 {
     let atoms = first_alternative(g.contract.gives.as_slice());
     answer_in(bound(atoms, 0), bound(atoms, 1), &s.world, s.room.taken)
@@ -271,7 +271,7 @@ fn asked<'a>(
     requires room { IsRoom a.now.proc.now s.old.room }
     requires outside { breaks_extern g.now ≡ false }
     requires none { g.now.body ≡ None }
-    ensures ok { IfOk result (λ c. (i : ℕ) → IsCalled a.now site.now.k (entry_turn p.now (frame a.now) (arrived i g.now guest.now s.old.room.memory) site.now.k site.now.into.now g.now.body (state a.now.proc.now s.old)) s.old c s.new) }
+    ensures ok { IfOk result (λ c. (i : ℕ) → IsCalled a.now site.now.k (spec.entry_turn p.now (frame a.now) (arrived i g.now guest.now s.old.room.memory) site.now.k site.now.into.now g.now.body (state a.now.proc.now s.old)) s.old c s.new) }
     ensures err { OnErr result (IsSame s.old s.new) }
 {
     let Ok(answer) = i32::try_from(extern_answer(g, s)) else {
@@ -299,7 +299,7 @@ fn make_entered<'a>(
     requires room { IsRoom a.now.proc.now s.old.room }
     requires names { map (λ n. n.name) guest.formals ≡ map (λ f. f.name) g.now.formals }
     requires body { IsSome g.now.body }
-    ensures ok { IfOk result (λ c. IsCalled a.now place.now.k (entry_turn p.now (frame a.now) (arrived number g.now guest s.old.room.memory) place.now.k place.now.into.now g.now.body (state a.now.proc.now s.old)) s.old c s.new) }
+    ensures ok { IfOk result (λ c. IsCalled a.now place.now.k (spec.entry_turn p.now (frame a.now) (arrived number g.now guest s.old.room.memory) place.now.k place.now.into.now g.now.body (state a.now.proc.now s.old)) s.old c s.new) }
     ensures err { OnErr result (IsSame s.old s.new) }
 {
     let inner = furnished(
@@ -345,7 +345,7 @@ fn call_proc<'a>(
     requires there { slice_get p.now.procs number ≡ Some g.now }
     requires sound { IsSoundProgram p.now }
     requires limits { first_limit p.now ≡ None }
-    ensures ok { IfOk result (λ c. IsCalled a.now site.now.k (call_proc_in p.now (frame a.now) site.now.k site.now.into.now number site.now.args.now (state a.now.proc.now s.old) (Some g.now)) s.old c s.new) }
+    ensures ok { IfOk result (λ c. IsCalled a.now site.now.k (spec.call_proc p.now (frame a.now) site.now.k site.now.into.now number site.now.args.now (state a.now.proc.now s.old) (Some g.now)) s.old c s.new) }
     ensures err { OnErr result (IsSame s.old s.new) }
 {
     let guest = guest_of(alloc, p, g, site.args, &s.room.memory, s.room.made)?;
@@ -378,7 +378,7 @@ fn call_named<'a>(
     requires room { IsRoom a.now.proc.now s.old.room }
     requires sound { IsSoundProgram p.now }
     requires limits { first_limit p.now ≡ None }
-    ensures ok { IfOk result (λ c. IsCalled a.now site.now.k (call_named_in p.now (frame a.now) site.now.k site.now.into.now callee site.now.args.now (state a.now.proc.now s.old)) s.old c s.new) }
+    ensures ok { IfOk result (λ c. IsCalled a.now site.now.k (spec.call_named p.now (frame a.now) site.now.k site.now.into.now callee site.now.args.now (state a.now.proc.now s.old)) s.old c s.new) }
     ensures err { OnErr result (IsSame s.old s.new) }
 {
     let Some(number) = callee else {
@@ -449,9 +449,9 @@ pub(crate) fn call<'a>(
     requires place { k ≤ length (stmts_in a.now.proc.now.body) }
     requires sound { IsSoundProgram p.now }
     requires limits { first_limit p.now ≡ None }
-    ensures ok { IfOk result (λ c. IsCalled a.now k (call_in p.now (frame a.now) k into.now x.now (map (any_value_in (env_of a.now.proc.now s.old.room.vars.items)) args.now) (state a.now.proc.now s.old)) s.old c s.new) }
+    ensures ok { IfOk result (λ c. IsCalled a.now k (spec.call p.now (frame a.now) k into.now x.now (map (any_value_in (env_of a.now.proc.now s.old.room.vars.items)) args.now) (state a.now.proc.now s.old)) s.old c s.new) }
     ensures err { OnErr result (IsSame s.old s.new) }
-    ensures int { OnOk result ((n : ℕ) → first_number_in (map (any_value_in (env_of a.now.proc.now s.old.room.vars.items)) args.now) ≡ pos n → n < 2 ^ 31) }
+    ensures int { OnOk result ((n : ℕ) → spec.first_number (map (any_value_in (env_of a.now.proc.now s.old.room.vars.items)) args.now) ≡ pos n → n < 2 ^ 31) }
 {
     let values = values_of(alloc, a, s, args.as_slice(), line.args.as_slice())?;
     let site = Site {

@@ -1,7 +1,7 @@
 //! Pointers to live objects, and what cells hold.
 ghost use Rattle.std.specs.Prelude.{◌≡◌, IfErr, IfOk, IfSome, IsSome, Ok, OnOk, Err, true};
 ghost use Rattle.cv_meaning.specs.Contract.{content as content_of};
-ghost use Rattle.cv_meaning.specs.Memory.{cell_at, diff as diff_of, get as get_of, live as live_at, may_change as may_change_of, place as place_of, put as put_of};
+ghost use Rattle.cv_meaning.specs.Memory as spec;
 ghost use Rattle.cv_interp.specs.Cells.{IsCellIfLive};
 ghost use Rattle.cv_interp.specs.Takes.{IsNearPtr};
 
@@ -10,8 +10,8 @@ use cv_meaning::{Mem, Permit, Ptr, Value};
 
 /// The live object to which a pointer points, and the offset: Null, Wild, Dead.
 fn target(m: &Mem, p: Ptr) -> Result<(u64, u32), ErrKind>
-    ensures ok { IfOk result (λ at. (p ≡ Ptr.At at.0 at.1) × (live_at m.now at.0 ≡ true)) }
-    ensures err { IfErr result (λ e. place_of m.now p ≡ Err e) }
+    ensures ok { IfOk result (λ at. (p ≡ Ptr.At at.0 at.1) × (spec.live m.now at.0 ≡ true)) }
+    ensures err { IfErr result (λ e. spec.place m.now p ≡ Err e) }
 {
     match p {
         Ptr::Null => Err(ErrKind::Null),
@@ -29,7 +29,7 @@ fn target(m: &Mem, p: Ptr) -> Result<(u64, u32), ErrKind>
 /// What the cell holds to which `w` points: Null, Wild, Dead.
 #[tactic(auto, using(crate::proofs::Live::get_live, crate::proofs::Live::get_fails))]
 pub(crate) fn get(m: &Mem, w: Ptr) -> Result<Value, ErrKind>
-    ensures { result ≡ get_of m.now w }
+    ensures { result ≡ spec.get m.now w }
 {
     let at = target(m, w)?;
     match m.get(at.0) {
@@ -40,7 +40,7 @@ pub(crate) fn get(m: &Mem, w: Ptr) -> Result<Value, ErrKind>
 
 /// Whether an object may be changed.
 pub(crate) fn may_change(permit: &Permit, object: u64) -> bool
-    ensures { result ≡ may_change_of permit.now object }
+    ensures { result ≡ spec.may_change permit.now object }
 {
     permit.first <= object || permit.allowed.as_slice().contains(&object)
 }
@@ -49,8 +49,8 @@ pub(crate) fn may_change(permit: &Permit, object: u64) -> bool
 #[tactic(auto, using(crate::proofs::Live::put_live, crate::proofs::Live::put_fails, crate::proofs::Live::cell_there))]
 pub(crate) fn put(m: &mut Mem, w: Ptr, v: Value, permit: &Permit) -> Result<(), ErrKind>
     requires { IsCellIfLive m.old w }
-    ensures ok { OnOk result (put_of m.old w v permit.now ≡ Ok m.new) }
-    ensures err { IfErr result (λ e. (put_of m.old w v permit.now ≡ Err e) × (m.new ≡ m.old)) }
+    ensures ok { OnOk result (spec.put m.old w v permit.now ≡ Ok m.new) }
+    ensures err { IfErr result (λ e. (spec.put m.old w v permit.now ≡ Err e) × (m.new ≡ m.old)) }
 {
     let at = target(m, w)?;
     if !may_change(permit, at.0) {
@@ -67,7 +67,7 @@ pub(crate) fn put(m: &mut Mem, w: Ptr, v: Value, permit: &Permit) -> Result<(), 
 pub(crate) fn diff(m: &Mem, p: Ptr, q: Ptr) -> Result<i32, ErrKind>
     requires first { IsNearPtr p }
     requires second { IsNearPtr q }
-    ensures { result ≡ diff_of m.now p q }
+    ensures { result ≡ spec.diff m.now p q }
 {
     let a = target(m, p)?;
     let b = target(m, q)?;

@@ -5,7 +5,7 @@ ghost use Rattle.cv_meaning.specs.Call.{entered, may_enter as may_enter_in};
 ghost use Rattle.cv_meaning.specs.Few.{AreFew};
 ghost use Rattle.cv_meaning.specs.Look.{look};
 ghost use Rattle.cv_meaning.specs.Memory.{IsShort};
-ghost use Rattle.cv_meaning.specs.State.{fresh_bytes as fresh_bytes_in, make_local, make_locals as make_locals_in, next_site, spend, with_object};
+ghost use Rattle.cv_meaning.specs.State as spec;
 ghost use Rattle.cv_interp.specs.Entered.{AreVariables, IsRoom, arguments, arrived};
 ghost use Rattle.cv_interp.specs.Plans.{slot_at as slot_at_of};
 ghost use Rattle.cv_interp.specs.Seen.{left, state_in};
@@ -209,7 +209,7 @@ fn make_variable(
     requires at { at ≡ slot_at_of g.now x.now }
     requires slot { HasSlot g.now x.now }
     requires room { IsRoom g.now room.old }
-    ensures state { state_in g.now w.now [] room.new ≡ make_local p.now _site x.now (LocalBody.Var kind) (state_in g.now w.now [] room.old) }
+    ensures state { state_in g.now w.now [] room.new ≡ spec.make_local p.now _site x.now (LocalBody.Var kind) (state_in g.now w.now [] room.old) }
     ensures room { IsRoom g.now room.new }
 {
     match kind {
@@ -241,7 +241,7 @@ pub(crate) fn make_buffer(
     requires short { size < 2 ^ 31 }
     requires room { IsRoom g.now room.old }
     ensures object { IfOk result (λ object. object ≡ length room.old.memory) }
-    ensures state { OnOk result (state_in g.now w.now [] room.new ≡ spend size (with_object (record { site = site; live = true; body = Buffer (fresh_bytes_in size (left w.now room.old.taken)) }) (state_in g.now w.now [] room.old))) }
+    ensures state { OnOk result (state_in g.now w.now [] room.new ≡ spec.spend size (spec.with_object (record { site = site; live = true; body = Buffer (spec.fresh_bytes size (left w.now room.old.taken)) }) (state_in g.now w.now [] room.old))) }
     ensures room { OnOk result (IsRoom g.now room.new) }
     ensures err { OnErr result (room.new ≡ room.old) }
 {
@@ -265,7 +265,7 @@ fn make_object(
 ) -> Result<(), AllocError>
     requires object { is_variable body ≡ false }
     requires room { IsRoom g.now room.old }
-    ensures state { OnOk result (state_in g.now w.now [] room.new ≡ make_local p.now site x.now body (state_in g.now w.now [] room.old)) }
+    ensures state { OnOk result (state_in g.now w.now [] room.new ≡ spec.make_local p.now site x.now body (state_in g.now w.now [] room.old)) }
     ensures room { OnOk result (IsRoom g.now room.new) }
 {
     match body {
@@ -303,8 +303,8 @@ fn make_one(
     requires at { at ≡ slot_at_of g.now l.now.name }
     requires slot { is_variable l.now.body ≡ true → HasSlot g.now l.now.name }
     requires room { IsRoom g.now room.old }
-    ensures next { IfOk result (λ next. next ≡ next_site site l.now.body) }
-    ensures state { OnOk result (state_in g.now w.now [] room.new ≡ make_local p.now site l.now.name l.now.body (state_in g.now w.now [] room.old)) }
+    ensures next { IfOk result (λ next. next ≡ spec.next_site site l.now.body) }
+    ensures state { OnOk result (state_in g.now w.now [] room.new ≡ spec.make_local p.now site l.now.name l.now.body (state_in g.now w.now [] room.old)) }
     ensures room { OnOk result (IsRoom g.now room.new) }
 {
     let x = l.name.as_slice();
@@ -353,7 +353,7 @@ fn make_locals(
     requires slots { slots.now ≡ map (λ l. slot_at_of g.now l.name) locals.now }
     requires variables { AreVariables g.now locals.now }
     requires room { IsRoom g.now room.old }
-    ensures state { OnOk result (state_in g.now w.now [] room.new ≡ make_locals_in p.now site locals.now (state_in g.now w.now [] room.old)) }
+    ensures state { OnOk result (state_in g.now w.now [] room.new ≡ spec.make_locals p.now site locals.now (state_in g.now w.now [] room.old)) }
     ensures room { OnOk result (IsRoom g.now room.new) }
 {
     match locals {
@@ -386,7 +386,7 @@ pub(crate) fn furnished(
     requires names { map (λ n. n.name) formals.now ≡ map (λ f. f.name) g.now.formals }
     requires made { made ≡ length memory.now }
     requires few { made ≤ 2 ^ 62 }
-    ensures state { IfOk result (λ room. state_in g.now w.now [] room ≡ make_locals_in p.now site (locals_in g.now.body) (record { vars = look formals.now; memory = memory.now; world = left w.now taken; output = [] })) }
+    ensures state { IfOk result (λ room. state_in g.now w.now [] room ≡ spec.make_locals p.now site (locals_in g.now.body) (record { vars = look formals.now; memory = memory.now; world = left w.now taken; output = [] })) }
     ensures room { IfOk result (λ room. IsRoom g.now room) }
 {
     let locals = locals_of(g);

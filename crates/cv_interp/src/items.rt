@@ -3,7 +3,7 @@ ghost use Rattle.std.specs.Prelude.{◌≡◌, ◌++◌, IfOk, OnOk};
 ghost use Rattle.std.specs.List.{filter_map};
 ghost use Rattle.std.specs.Option.{option_and_then};
 ghost use Rattle.cv_core.specs.Names.{place_of};
-ghost use Rattle.cv_meaning.specs.Contract.{as_pointer as as_pointer_of, global_value as global_value_of, item_object as item_object_of, named as named_of, object_of as object_of_pointer, pointer_value as pointer_value_of, starred as starred_of};
+ghost use Rattle.cv_meaning.specs.Contract as spec;
 ghost use Rattle.cv_meaning.specs.Look.{look};
 ghost use Rattle.cv_meaning.specs.Seen.{scene};
 
@@ -29,7 +29,7 @@ fn looked(vars: &[NamedValue], x: &[u8]) -> Value
 
 /// The value of the global of a number.
 fn global_value(body: GlobalBody, i: usize, m: &Mem) -> Option<Value>
-    ensures { result ≡ global_value_of body i m.now }
+    ensures { result ≡ spec.global_value body i m.now }
 {
     let at = Value::Ptr(Ptr::At {
         object: i as u64,
@@ -43,7 +43,7 @@ fn global_value(body: GlobalBody, i: usize, m: &Mem) -> Option<Value>
 }
 
 fn named(v: &View, m: &Mem, x: &[u8]) -> Option<Value>
-    ensures { result ≡ named_of (scene v.entry.now) m.now x.now }
+    ensures { result ≡ spec.named (scene v.entry.now) m.now x.now }
 {
     match global_place(v.globals.as_slice(), x) {
         None => Some(looked(v.formals.as_slice(), x)),
@@ -52,7 +52,7 @@ fn named(v: &View, m: &Mem, x: &[u8]) -> Option<Value>
 }
 
 fn as_pointer(v: Option<Value>) -> Option<Ptr>
-    ensures { result ≡ option_and_then as_pointer_of v }
+    ensures { result ≡ option_and_then spec.as_pointer v }
 {
     match v {
         Some(Value::Ptr(p)) => Some(p),
@@ -62,7 +62,7 @@ fn as_pointer(v: Option<Value>) -> Option<Ptr>
 }
 
 fn starred(v: &View, m: &Mem, x: &[u8]) -> Option<Value>
-    ensures { result ≡ starred_of (scene v.entry.now) m.now x.now }
+    ensures { result ≡ spec.starred (scene v.entry.now) m.now x.now }
 {
     content(m, named(v, m, x)?)
 }
@@ -70,7 +70,7 @@ fn starred(v: &View, m: &Mem, x: &[u8]) -> Option<Value>
 /// The pointer that a contract names, memory being read in `m`, and under `pre` at entry.
 #[tactic(auto, using(cv_meaning::proofs::Terms::pointer_value_pre))]
 fn pointer_value(v: &View, m: &Mem, t: &PtrTerm) -> Option<Ptr>
-    ensures { result ≡ pointer_value_of (scene v.entry.now) m.now t.now }
+    ensures { result ≡ spec.pointer_value (scene v.entry.now) m.now t.now }
 {
     match t {
         PtrTerm::Name(x) => as_pointer(named(v, m, x.as_slice())),
@@ -81,7 +81,7 @@ fn pointer_value(v: &View, m: &Mem, t: &PtrTerm) -> Option<Ptr>
 }
 
 fn object_of(p: Option<Ptr>) -> Option<u64>
-    ensures { result ≡ option_and_then object_of_pointer p }
+    ensures { result ≡ option_and_then spec.object_of p }
 {
     match p {
         Some(Ptr::At { object, .. }) => Some(object),
@@ -93,7 +93,7 @@ fn object_of(p: Option<Ptr>) -> Option<u64>
 
 /// The object that an item names.
 fn item_object(v: &View, item: &Item) -> Option<u64>
-    ensures { result ≡ item_object_of (scene v.entry.now) item.now }
+    ensures { result ≡ spec.item_object (scene v.entry.now) item.now }
 {
     match item {
         Item::Body(t) => object_of(pointer_value(v, v.now, t)),
@@ -108,7 +108,7 @@ fn item_object(v: &View, item: &Item) -> Option<u64>
 /// Puts the objects of the items behind others.
 #[tactic(auto, using(crate::proofs::Sums::more_objects, crate::proofs::Sums::no_more_objects))]
 fn put_objects(v: &View, items: &[Item], objects: &mut List<u64>) -> Result<(), AllocError>
-    ensures { OnOk result (objects.new ≡ objects.old ++ filter_map (item_object_of (scene v.entry.now)) items.now) }
+    ensures { OnOk result (objects.new ≡ objects.old ++ filter_map (spec.item_object (scene v.entry.now)) items.now) }
 {
     match items {
         [] => Ok(()),
@@ -124,7 +124,7 @@ fn put_objects(v: &View, items: &[Item], objects: &mut List<u64>) -> Result<(), 
 
 /// The objects that the items name; an error is want of memory.
 pub(crate) fn item_objects(alloc: Global, v: &View, items: &[Item]) -> Result<List<u64>, AllocError>
-    ensures { IfOk result (λ objects. objects ≡ filter_map (item_object_of (scene v.entry.now)) items.now) }
+    ensures { IfOk result (λ objects. objects ≡ filter_map (spec.item_object (scene v.entry.now)) items.now) }
 {
     let mut objects = List::new(alloc);
     put_objects(v, items, &mut objects)?;

@@ -1,6 +1,6 @@
 //! One step of a return.
 ghost use Rattle.std.specs.Prelude.{◌≡◌, ◌⊎◌, ◌<◌, ◌≤◌, ◌^◌, Err, IfErr, Ok, OnOk, length};
-ghost use Rattle.cv_meaning.specs.Call.{Errs, Leaves, is_own as is_own_in, leave as leave_in, left_memory, returnable as returnable_in, scene_of};
+ghost use Rattle.cv_meaning.specs.Call as spec;
 ghost use Rattle.cv_meaning.specs.Contract.{ensures_hold};
 ghost use Rattle.cv_meaning.specs.Few.{AreFew};
 ghost use Rattle.cv_meaning.specs.Memory.{kill_from as killed_from};
@@ -14,14 +14,14 @@ use cv_meaning::{Mem, Part, Ptr, Value, View, holds};
 /// Whether it is a local object of the procedure that runs.
 #[tactic(auto, using(crate::proofs::Sums::own_test))]
 fn is_own(a: &Activation, object: u64) -> bool
-    ensures { result ≡ is_own_in (frame a.now) object }
+    ensures { result ≡ spec.is_own (frame a.now) object }
 {
     a.permit.first <= object && object - a.permit.first < object_count(a.proc) as u64
 }
 
 /// Whether a value may be returned: Wild, Dead.
 fn returnable(a: &Activation, m: &Mem, answer: Option<Value>) -> Result<(), ErrKind>
-    ensures { result ≡ returnable_in (frame a.now) m.now answer (Ok tt) }
+    ensures { result ≡ spec.returnable (frame a.now) m.now answer (Ok tt) }
 {
     match answer {
         Some(Value::Ptr(Ptr::Wild)) => Err(ErrKind::Wild),
@@ -55,7 +55,7 @@ fn kill_from(m: &mut Mem, made: u64, first: u64, count: usize)
 
 fn may_leave(p: &Program, a: &Activation, m: &Mem, answer: Option<Value>) -> bool
     requires { AreFew a.now.proc.now.contract }
-    ensures { result ≡ ensures_hold (scene_of p.now (frame a.now) m.now answer) a.now.proc.now.contract }
+    ensures { result ≡ ensures_hold (spec.scene_of p.now (frame a.now) m.now answer) a.now.proc.now.contract }
 {
     let view = View {
         at_entry: &a.entry,
@@ -77,11 +77,11 @@ pub(crate) fn leave(
 ) -> Result<(), ErrKind>
     requires few { AreFew a.now.proc.now.contract }
     requires made { s.old.room.made ≡ length s.old.room.memory }
-    ensures ok { OnOk result (leave_in p.now (frame a.now) answer (state a.now.proc.now s.old) ≡ Leaves answer (state a.now.proc.now s.new)) }
-    ensures err { IfErr result (λ e. leave_in p.now (frame a.now) answer (state a.now.proc.now s.old) ≡ Errs e) }
+    ensures ok { OnOk result (spec.leave p.now (frame a.now) answer (state a.now.proc.now s.old) ≡ spec.Leaves answer (state a.now.proc.now s.new)) }
+    ensures err { IfErr result (λ e. spec.leave p.now (frame a.now) answer (state a.now.proc.now s.old) ≡ spec.Errs e) }
     ensures output { s.new.output ≡ s.old.output }
     ensures vars { s.new.room.vars ≡ s.old.room.vars }
-    ensures memory { (s.new.room.memory ≡ s.old.room.memory) ⊎ (s.new.room.memory ≡ left_memory (frame a.now) s.old.room.memory) }
+    ensures memory { (s.new.room.memory ≡ s.old.room.memory) ⊎ (s.new.room.memory ≡ spec.left_memory (frame a.now) s.old.room.memory) }
     ensures kept { IsKept s.old s.new }
 {
     returnable(a, &s.room.memory, answer)?;

@@ -11,7 +11,7 @@ ghost use Rattle.cv_meaning.specs.declared.memory.World.{World as WorldValue};
 ghost use Rattle.cv_interp.specs.Called.{IsInto};
 ghost use Rattle.cv_interp.specs.Entered.{IsRoom, arrived};
 ghost use Rattle.cv_interp.specs.Machine.{answer_of as answer_in, at_call, end, end_behind, into_at, is_call, seen, turn_of as turn_at};
-ghost use Rattle.cv_interp.specs.Plans.{any_slot_if as any_slot_if_of, line_of as line_as, plans_of as plans_as, slot_at as slot_at_of, slot_if as slot_if_of};
+ghost use Rattle.cv_interp.specs.Plans as spec;
 ghost use Rattle.cv_interp.specs.Seen.{state_in};
 ghost use Rattle.cv_interp.specs.Slots.{env_of};
 ghost use Rattle.cv_interp.specs.Takes.{IsNear};
@@ -136,7 +136,7 @@ fn fail(core: &mut Core, kind: ErrKind, line: u32) -> Turn
 /// Takes a step that is no call and no return.
 fn go(core: &mut Core, stmt: &Stmt, line: &Line) -> Turn
     requires good { IsGood core.old }
-    requires line { line.now ≡ line_as core.old.program.now core.old.running.proc.now stmt.now.form }
+    requires line { line.now ≡ spec.line_of core.old.program.now core.old.running.proc.now stmt.now.form }
     requires on { core.old.ended ≡ None }
     requires at { slice_get (stmts_in core.old.running.proc.now.body) core.old.at ≡ Some stmt.now }
     requires plain { is_plain stmt.now.form ≡ true }
@@ -191,8 +191,8 @@ fn go_into(
     line: &Line,
 ) -> Result<Turn, AllocError>
     requires good { IsGood core.old }
-    requires plans { plans.now ≡ plans_as core.old.program.now }
-    requires line { line.now ≡ line_as core.old.program.now core.old.running.proc.now (Form.Call into.now f.now args.now) }
+    requires plans { plans.now ≡ spec.plans_of core.old.program.now }
+    requires line { line.now ≡ spec.line_of core.old.program.now core.old.running.proc.now (Form.Call into.now f.now args.now) }
     requires on { core.old.ended ≡ None }
     requires at { slice_get (stmts_in core.old.running.proc.now.body) core.old.at ≡ Some (record { line = number; form = Form.Call into.now f.now args.now }) }
     ensures good { IsGood core.new }
@@ -227,7 +227,7 @@ fn go_into(
 
 /// Gives an answer to the destination of the call at a statement.
 fn give_at(p: &Program, f: &Proc, at: usize, line: &Line, answer: Option<Value>, room: &mut Room)
-    requires line { line.now.first ≡ slot_if_of f.now (into_at f.now at) }
+    requires line { line.now.first ≡ spec.slot_if f.now (into_at f.now at) }
     requires slot { IsInto f.now (into_at f.now at) }
     requires room { IsRoom f.now room.old }
     ensures state { (g : Frame) (w : WorldValue) (out : List ℕ) → g.proc ≡ f.now → state_in f.now w out room.new ≡ give_in p.now g (into_at f.now at) answer (state_in f.now w out room.old) }
@@ -245,7 +245,7 @@ fn give_at(p: &Program, f: &Proc, at: usize, line: &Line, answer: Option<Value>,
 /// Goes on in the procedure that waits, or ends the machine where none does.
 fn go_back(core: &mut Core, answer: Option<Value>, plans: &List<Plan>) -> Turn
     requires good { IsGood core.old }
-    requires plans { plans.now ≡ plans_as core.old.program.now }
+    requires plans { plans.now ≡ spec.plans_of core.old.program.now }
     requires on { core.old.ended ≡ None }
     requires near { IfSome answer IsNear }
     ensures good { IsGood core.new }
@@ -283,7 +283,7 @@ fn go_back(core: &mut Core, answer: Option<Value>, plans: &List<Plan>) -> Turn
 
 /// What a return of a procedure answers.
 fn answer_by(f: &Proc, vars: &[Value], e: &Option<AnyOperand>, at: Slot) -> Option<Value>
-    requires at { at ≡ any_slot_if_of f.now e.now }
+    requires at { at ≡ spec.any_slot_if f.now e.now }
     ensures { result ≡ option_map (any_value_in (env_of f.now vars.now)) e.now }
 {
     match e {
@@ -301,8 +301,8 @@ fn go_out(
     line: &Line,
 ) -> Turn
     requires good { IsGood core.old }
-    requires plans { plans.now ≡ plans_as core.old.program.now }
-    requires line { line.now ≡ line_as core.old.program.now core.old.running.proc.now (Form.Return e.now) }
+    requires plans { plans.now ≡ spec.plans_of core.old.program.now }
+    requires line { line.now ≡ spec.line_of core.old.program.now core.old.running.proc.now (Form.Return e.now) }
     requires on { core.old.ended ≡ None }
     requires at { slice_get (stmts_in core.old.running.proc.now.body) core.old.at ≡ Some (record { line = number; form = Form.Return e.now }) }
     ensures good { IsGood core.new }
@@ -324,7 +324,7 @@ fn go_out(
 /// Takes a step of a statement.
 fn take_stmt(core: &mut Core, stmt: &Stmt, plans: &List<Plan>) -> Result<Turn, AllocError>
     requires good { IsGood core.old }
-    requires plans { plans.now ≡ plans_as core.old.program.now }
+    requires plans { plans.now ≡ spec.plans_of core.old.program.now }
     requires on { core.old.ended ≡ None }
     requires at { slice_get (stmts_in core.old.running.proc.now.body) core.old.at ≡ Some stmt.now }
     ensures good { IsGood core.new }
@@ -344,7 +344,7 @@ fn take_stmt(core: &mut Core, stmt: &Stmt, plans: &List<Plan>) -> Result<Turn, A
 /// Takes a step.
 fn take(core: &mut Core, plans: &List<Plan>) -> Result<Turn, AllocError>
     requires good { IsGood core.old }
-    requires plans { plans.now ≡ plans_as core.old.program.now }
+    requires plans { plans.now ≡ spec.plans_of core.old.program.now }
     ensures good { IsGood core.new }
     ensures program { core.new.program ≡ core.old.program }
     ensures led { IfOk result (λ t. Leads (stack_of core.old) t (stack_of core.new)) }
@@ -387,7 +387,7 @@ fn first_core<'a>(
     args: &[Arg],
     world: World,
 ) -> Result<Core<'a>, AllocError>
-    requires slots { plan.now.locals ≡ map (λ l. slot_at_of main.now l.name) (locals_in main.now.body) }
+    requires slots { plan.now.locals ≡ map (λ l. spec.slot_at main.now l.name) (locals_in main.now.body) }
     requires site { plan.now.site ≡ local_site_of program.now number }
     requires well_formed { IsSoundProgram program.now }
     requires limits { first_limit program.now ≡ None }
@@ -444,9 +444,7 @@ impl<'a> Machine<'a> {
         ensures mains { OnOk result (IsTrue (are_mains program.now args.now)) }
         ensures refused { IfErr result (IsRefusal program.now args.now) }
     {
-        let Some((number, main)) = main_of(program) else {
-            return Err(StartError::Memory);
-        };
+        let (number, main) = main_of(program);
         if !fit(main.formals.as_slice(), args) {
             return Err(StartError::Args);
         }

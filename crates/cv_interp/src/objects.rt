@@ -1,7 +1,7 @@
 //! Objects by name.
 ghost use Rattle.std.specs.Prelude.{◌≡◌, ◌+◌, ◌<◌, ◌≤◌, ◌^◌, IfSome, length};
 ghost use Rattle.std.specs.List.{filter};
-ghost use Rattle.cv_core.specs.Names.{is_object as is_object_in, objects_of as objects_in, place_of};
+ghost use Rattle.cv_core.specs.Names as spec;
 ghost use Rattle.cv_interp.specs.Plans.{home_of as home_in, object_at as object_in, own_place};
 
 use crate::store::{Activation, Home};

@@ -1,7 +1,7 @@
 //! What the names of a program stand for, looked up once before a run.
 ghost use Rattle.std.specs.Prelude.{◌≡◌, ◌+◌, ◌++◌, ◌<◌, ◌≤◌, IfOk, IfSome, IsSome, OnOk, Some, length, map, slice_get};
 ghost use Rattle.cv_core.specs.Names.{place_of};
-ghost use Rattle.cv_interp.specs.Plans.{any_slot as any_slot_of, any_slot_if as any_slot_if_of, home_of as home_in, line_in, line_of as line_as, nowhere as nowhere_of, operand_slot as operand_slot_of, plain as plain_of, plan_of as plan_as, plans_from as plans_behind, plans_of as plans_as, slot_at as slot_at_of, slot_if as slot_if_of};
+ghost use Rattle.cv_interp.specs.Plans as spec;
 
 use crate::objects::home_of;
 use crate::sites::{local_site, plus};
@@ -15,7 +15,7 @@ use std::alloc::{AllocError, Global};
 
 /// The slot where no variable is named.
 fn nowhere() -> Slot
-    ensures { result ≡ nowhere_of }
+    ensures { result ≡ spec.nowhere }
 {
     Slot {
         place: None,
@@ -24,7 +24,7 @@ fn nowhere() -> Slot
 }
 
 fn slot_if(f: &Proc, x: &Option<Bytes>) -> Slot
-    ensures { result ≡ slot_if_of f.now x.now }
+    ensures { result ≡ spec.slot_if f.now x.now }
 {
     match x {
         None => nowhere(),
@@ -33,7 +33,7 @@ fn slot_if(f: &Proc, x: &Option<Bytes>) -> Slot
 }
 
 fn operand_slot(f: &Proc, e: &Operand) -> Slot
-    ensures { result ≡ operand_slot_of f.now e.now }
+    ensures { result ≡ spec.operand_slot f.now e.now }
 {
     match e {
         Operand::Var(x) => slot_at(f, x.as_slice()),
@@ -42,7 +42,7 @@ fn operand_slot(f: &Proc, e: &Operand) -> Slot
 }
 
 fn any_slot(f: &Proc, e: &AnyOperand) -> Slot
-    ensures { result ≡ any_slot_of f.now e.now }
+    ensures { result ≡ spec.any_slot f.now e.now }
 {
     match e {
         AnyOperand::Operand(e) => operand_slot(f, e),
@@ -51,7 +51,7 @@ fn any_slot(f: &Proc, e: &AnyOperand) -> Slot
 }
 
 fn any_slot_if(f: &Proc, e: &Option<AnyOperand>) -> Slot
-    ensures { result ≡ any_slot_if_of f.now e.now }
+    ensures { result ≡ spec.any_slot_if f.now e.now }
 {
     match e {
         None => nowhere(),
@@ -61,7 +61,7 @@ fn any_slot_if(f: &Proc, e: &Option<AnyOperand>) -> Slot
 
 /// A line of these slots, without an object and without a call; it takes no memory.
 fn plain(alloc: Global, first: Slot, second: Slot, third: Slot) -> Line
-    ensures { result ≡ plain_of first second third }
+    ensures { result ≡ spec.plain first second third }
 {
     Line {
         first,
@@ -82,7 +82,7 @@ pub(crate) fn proc_place(procs: &[Proc], x: &[u8]) -> Option<usize>
 }
 
 fn any_slots(alloc: Global, f: &Proc, args: &[AnyOperand]) -> Result<Vec<Slot>, AllocError>
-    ensures { IfOk result (λ slots. slots.items ≡ map (any_slot_of f.now) args.now) }
+    ensures { IfOk result (λ slots. slots.items ≡ map (spec.any_slot f.now) args.now) }
 {
     args.iter().map(|e| any_slot(f, e)).collect(alloc)
 }
@@ -109,7 +109,7 @@ fn call_line(
     g: &Bytes,
     args: &List<AnyOperand>,
 ) -> Result<Line, AllocError>
-    ensures { IfOk result (λ line. line ≡ line_as p.now f.now (Form.Call into.now g.now args.now)) }
+    ensures { IfOk result (λ line. line ≡ spec.line_of p.now f.now (Form.Call into.now g.now args.now)) }
 {
     let slots = any_slots(alloc, f, args.as_slice())?;
     Ok(Line {
@@ -125,7 +125,7 @@ fn call_line(
 /// The line of an address.
 fn address_line(alloc: Global, p: &Program, f: &Proc, x: &Bytes, object: &Bytes) -> Line
     requires globals { length p.now.globals ≤ 256 }
-    ensures { result ≡ line_as p.now f.now (Form.Address x.now object.now) }
+    ensures { result ≡ spec.line_of p.now f.now (Form.Address x.now object.now) }
 {
     Line {
         first: slot_at(f, x.as_slice()),
@@ -139,7 +139,7 @@ fn address_line(alloc: Global, p: &Program, f: &Proc, x: &Bytes, object: &Bytes)
 
 /// The slot of a variable and that of an operand.
 fn with_operand(alloc: Global, f: &Proc, x: &Bytes, e: &Operand) -> Line
-    ensures { result ≡ plain_of (slot_at_of f.now x.now) (operand_slot_of f.now e.now) nowhere_of }
+    ensures { result ≡ spec.plain (spec.slot_at f.now x.now) (spec.operand_slot f.now e.now) spec.nowhere }
 {
     plain(
         alloc,
@@ -151,7 +151,7 @@ fn with_operand(alloc: Global, f: &Proc, x: &Bytes, e: &Operand) -> Line
 
 /// The slot of a variable and those of two operands.
 fn with_operands(alloc: Global, f: &Proc, x: &Bytes, d: &Operand, e: &Operand) -> Line
-    ensures { result ≡ plain_of (slot_at_of f.now x.now) (operand_slot_of f.now d.now) (operand_slot_of f.now e.now) }
+    ensures { result ≡ spec.plain (spec.slot_at f.now x.now) (spec.operand_slot f.now d.now) (spec.operand_slot f.now e.now) }
 {
     plain(
         alloc,
@@ -163,7 +163,7 @@ fn with_operands(alloc: Global, f: &Proc, x: &Bytes, d: &Operand, e: &Operand) -
 
 /// The slots of two variables.
 fn with_variable(alloc: Global, f: &Proc, x: &Bytes, y: &Bytes) -> Line
-    ensures { result ≡ plain_of (slot_at_of f.now x.now) (slot_at_of f.now y.now) nowhere_of }
+    ensures { result ≡ spec.plain (spec.slot_at f.now x.now) (spec.slot_at f.now y.now) spec.nowhere }
 {
     plain(
         alloc,
@@ -175,7 +175,7 @@ fn with_variable(alloc: Global, f: &Proc, x: &Bytes, y: &Bytes) -> Line
 
 /// The slots of three variables.
 fn with_variables(alloc: Global, f: &Proc, x: &Bytes, y: &Bytes, z: &Bytes) -> Line
-    ensures { result ≡ plain_of (slot_at_of f.now x.now) (slot_at_of f.now y.now) (slot_at_of f.now z.now) }
+    ensures { result ≡ spec.plain (spec.slot_at f.now x.now) (spec.slot_at f.now y.now) (spec.slot_at f.now z.now) }
 {
     plain(
         alloc,
@@ -187,7 +187,7 @@ fn with_variables(alloc: Global, f: &Proc, x: &Bytes, y: &Bytes, z: &Bytes) -> L
 
 /// The slots of two variables and that of an operand.
 fn with_both(alloc: Global, f: &Proc, x: &Bytes, y: &Bytes, e: &Operand) -> Line
-    ensures { result ≡ plain_of (slot_at_of f.now x.now) (slot_at_of f.now y.now) (operand_slot_of f.now e.now) }
+    ensures { result ≡ spec.plain (spec.slot_at f.now x.now) (spec.slot_at f.now y.now) (spec.operand_slot f.now e.now) }
 {
     plain(
         alloc,
@@ -199,21 +199,21 @@ fn with_both(alloc: Global, f: &Proc, x: &Bytes, y: &Bytes, e: &Operand) -> Line
 
 /// The slot of a variable, and that of one that may not be there.
 fn with_maybe(alloc: Global, f: &Proc, x: &Bytes, q: &Option<Bytes>) -> Line
-    ensures { result ≡ plain_of (slot_at_of f.now x.now) (slot_if_of f.now q.now) nowhere_of }
+    ensures { result ≡ spec.plain (spec.slot_at f.now x.now) (spec.slot_if f.now q.now) spec.nowhere }
 {
     plain(alloc, slot_at(f, x.as_slice()), slot_if(f, q), nowhere())
 }
 
 /// The slot of a variable, and that of an operand or null.
 fn with_any(alloc: Global, f: &Proc, x: &Bytes, e: &AnyOperand) -> Line
-    ensures { result ≡ plain_of (slot_at_of f.now x.now) (any_slot_of f.now e.now) nowhere_of }
+    ensures { result ≡ spec.plain (spec.slot_at f.now x.now) (spec.any_slot f.now e.now) spec.nowhere }
 {
     plain(alloc, slot_at(f, x.as_slice()), any_slot(f, e), nowhere())
 }
 
 /// The slot of a variable alone.
 fn alone(alloc: Global, f: &Proc, x: &Bytes) -> Line
-    ensures { result ≡ plain_of (slot_at_of f.now x.now) nowhere_of nowhere_of }
+    ensures { result ≡ spec.plain (spec.slot_at f.now x.now) spec.nowhere spec.nowhere }
 {
     plain(alloc, slot_at(f, x.as_slice()), nowhere(), nowhere())
 }
@@ -221,7 +221,7 @@ fn alone(alloc: Global, f: &Proc, x: &Bytes) -> Line
 /// The line of a form; an error is want of memory.
 fn line_of(alloc: Global, p: &Program, f: &Proc, form: &Form) -> Result<Line, AllocError>
     requires globals { length p.now.globals ≤ 256 }
-    ensures { IfOk result (λ line. line ≡ line_as p.now f.now form.now) }
+    ensures { IfOk result (λ line. line ≡ spec.line_of p.now f.now form.now) }
 {
     match form {
         Form::Assign { x, e } => Ok(with_operand(alloc, f, x, e)),
@@ -253,7 +253,7 @@ fn line_of(alloc: Global, p: &Program, f: &Proc, form: &Form) -> Result<Line, Al
 
 fn lines_of(alloc: Global, p: &Program, f: &Proc, stmts: &[Stmt]) -> Result<List<Line>, AllocError>
     requires globals { length p.now.globals ≤ 256 }
-    ensures { IfOk result (λ lines. lines ≡ map (λ s. line_as p.now f.now s.form) stmts.now) }
+    ensures { IfOk result (λ lines. lines ≡ map (λ s. spec.line_of p.now f.now s.form) stmts.now) }
 {
     let mut lines = List::new(alloc);
     for stmt in stmts {
@@ -263,13 +263,13 @@ fn lines_of(alloc: Global, p: &Program, f: &Proc, stmts: &[Stmt]) -> Result<List
 }
 
 fn local_slot(f: &Proc, l: &Local) -> Slot
-    ensures { result ≡ slot_at_of f.now l.now.name }
+    ensures { result ≡ spec.slot_at f.now l.now.name }
 {
     slot_at(f, l.name.as_slice())
 }
 
 fn local_slots(alloc: Global, f: &Proc, locals: &[Local]) -> Result<Vec<Slot>, AllocError>
-    ensures { IfOk result (λ slots. slots.items ≡ map (λ l. slot_at_of f.now l.name) locals.now) }
+    ensures { IfOk result (λ slots. slots.items ≡ map (λ l. spec.slot_at f.now l.name) locals.now) }
 {
     locals.iter().map(|l| local_slot(f, l)).collect(alloc)
 }
@@ -283,7 +283,7 @@ fn plan_of(
     mallocs: u32,
 ) -> Result<Plan, AllocError>
     requires globals { length p.now.globals ≤ 256 }
-    ensures { IfOk result (λ plan. plan ≡ plan_as p.now f.now site mallocs) }
+    ensures { IfOk result (λ plan. plan ≡ spec.plan_of p.now f.now site mallocs) }
 {
     Ok(Plan {
         lines: lines_of(alloc, p, f, stmts_of(f))?,
@@ -314,7 +314,7 @@ fn put_plans(
     plans: &mut List<Plan>,
 ) -> Result<(), AllocError>
     requires globals { length p.now.globals ≤ 256 }
-    ensures { OnOk result (plans.new ≡ plans.old ++ plans_behind p.now site mallocs procs.now) }
+    ensures { OnOk result (plans.new ≡ plans.old ++ spec.plans_from p.now site mallocs procs.now) }
 {
     match procs {
         [] => Ok(()),
@@ -330,7 +330,7 @@ fn put_plans(
 /// The plans of all procedures; an error is want of memory.
 pub(crate) fn plans_of(alloc: Global, p: &Program) -> Result<List<Plan>, AllocError>
     requires globals { length p.now.globals ≤ 256 }
-    ensures { IfOk result (λ plans. plans ≡ plans_as p.now) }
+    ensures { IfOk result (λ plans. plans ≡ spec.plans_of p.now) }
 {
     let mut plans = List::new(alloc);
     let Some(site) = local_site(p, 0) else {
@@ -345,8 +345,8 @@ pub(crate) fn plans_of(alloc: Global, p: &Program) -> Result<List<Plan>, AllocEr
 
 /// The line of the statement `at` of the procedure of a number.
 pub(crate) fn line_at(plans: &List<Plan>, number: u32, at: usize) -> &Line
-    requires { IsSome (line_in plans.now number at) }
-    ensures { line_in plans.now number at ≡ Some result.now }
+    requires { IsSome (spec.line_in plans.now number at) }
+    ensures { spec.line_in plans.now number at ≡ Some result.now }
 {
     &plans.as_slice()[number as usize].lines.as_slice()[at]
 }

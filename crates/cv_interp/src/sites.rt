@@ -1,6 +1,6 @@
 //! Sites of objects; None where a site would be no 32-bit number.
 ghost use Rattle.std.specs.Prelude.{◌≡◌, ◌+◌, ◌≤◌, IfSome, length, map, sum, take};
-ghost use Rattle.cv_core.specs.Names.{is_malloc as is_malloc_in, local_site as local_site_of, malloc_site as malloc_site_of, mallocs_in as mallocs_of, objects_of as objects_in, stmts_at, stmts_of as stmts_in};
+ghost use Rattle.cv_core.specs.Names as spec;
 ghost use Rattle.cv_interp.specs.Plans.{first_malloc};
 
 use crate::store::Activation;
@@ -19,7 +19,7 @@ pub(crate) fn plus(a: u32, b: usize) -> Option<u32>
 /// `start` and the local objects of so many procedures.
 #[tactic(auto, using(crate::proofs::Sums::sum_step, crate::proofs::Sums::sum_none))]
 fn past_objects(procs: &[Proc], count: usize, start: u32) -> Option<u32>
-    ensures { IfSome result (λ s. s ≡ start + sum (map (λ g. length (objects_in g)) (take count procs.now))) }
+    ensures { IfSome result (λ s. s ≡ start + sum (map (λ g. length (spec.objects_of g)) (take count procs.now))) }
 {
     match procs {
         [] => Some(start),
@@ -35,7 +35,7 @@ fn past_objects(procs: &[Proc], count: usize, start: u32) -> Option<u32>
 
 /// The site of the first local object of the procedure of a number.
 pub(crate) fn local_site(p: &Program, number: usize) -> Option<u32>
-    ensures { IfSome result (λ s. s ≡ local_site_of p.now number) }
+    ensures { IfSome result (λ s. s ≡ spec.local_site p.now number) }
 {
     let start = plus(plus(1, p.globals.len())?, p.literals.len())?;
     past_objects(p.procs.as_slice(), number, start)
@@ -45,9 +45,9 @@ pub(crate) fn local_site(p: &Program, number: usize) -> Option<u32>
 #[tactic(auto, using(crate::proofs::Planned::malloc_is))]
 pub(crate) fn malloc_site(_p: &Program, a: &Activation, first: u32, k: usize) -> Option<u32>
     requires first { first ≡ first_malloc _p.now a.now.number }
-    requires stmts { stmts_at _p.now.procs a.now.number ≡ stmts_in a.now.proc.now.body }
-    requires place { k ≤ length (stmts_in a.now.proc.now.body) }
-    ensures { IfSome result (λ s. s ≡ malloc_site_of _p.now a.now.number k) }
+    requires stmts { spec.stmts_at _p.now.procs a.now.number ≡ spec.stmts_of a.now.proc.now.body }
+    requires place { k ≤ length (spec.stmts_of a.now.proc.now.body) }
+    ensures { IfSome result (λ s. s ≡ spec.malloc_site _p.now a.now.number k) }
 {
     let stmts = stmts_of(a.proc);
     plus(first, malloc_count(&stmts[..k]))

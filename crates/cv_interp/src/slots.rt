@@ -1,7 +1,7 @@
 //! Variables by slot.
 ghost use Rattle.std.specs.Prelude.{◌≡◌, ◌<◌, map, length, pos, IfSome, IsSome};
 ghost use Rattle.cv_core.specs.Chars.{low_byte as low_byte_of, char_of as char_in};
-ghost use Rattle.cv_core.specs.Names.{kind_among as kind_in, kind_in_locals as kind_among_locals, kind_of as kind_of_name, kind_of_local as kind_of_body, locals_of as locals_in};
+ghost use Rattle.cv_core.specs.Names as spec;
 ghost use Rattle.cv_meaning.specs.State.{any_value as any_value_in, as_kind as as_kind_of, number as number_in, operand_value as operand_value_in, pointer as pointer_in, set};
 ghost use Rattle.cv_interp.specs.Plans.{any_slot as any_slot_of, operand_slot as operand_slot_of, slot_at as slot_at_of};
 ghost use Rattle.cv_interp.specs.Slots.{env_of, held_as, is_variable as is_variable_in, slot_in, slot_names, slot_of as slot_of_name, variables_of};
@@ -177,7 +177,7 @@ pub(crate) fn assign(p: &Program, f: &Proc, vars: &mut Vec<Value>, x: &[u8], at:
     requires at { at ≡ slot_at_of f.now x.now }
     requires known { IsSome (slot_of_name f.now x.now) }
     requires whole { length vars.old.items ≡ length (slot_names f.now) }
-    ensures set { env_of f.now vars.new.items ≡ set (env_of f.now vars.old.items) x.now (as_kind_of p.now (kind_of_name f.now x.now) z) }
+    ensures set { env_of f.now vars.new.items ≡ set (env_of f.now vars.old.items) x.now (as_kind_of p.now (spec.kind_of f.now x.now) z) }
     ensures whole { length vars.new.items ≡ length vars.old.items }
 {
     let v = as_kind(p, at.kind, z);

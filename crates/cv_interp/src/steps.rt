@@ -2,7 +2,7 @@
 ghost use Rattle.std.specs.Prelude.{◌*ℤ◌, ◌≡◌, ◌+◌, ◌<◌, ◌^◌, ◌≤ℤ◌, Err, IfErr, IfOk, Ok, length, ◌≤◌, if◌then◌else◌, pos};
 ghost use Rattle.cv_meaning.specs.Contract.{compare as compare_of};
 ghost use Rattle.cv_meaning.specs.State.{assign as assign_in, with_var};
-ghost use Rattle.cv_meaning.specs.Step.{branch, branch_pointers, by_rel as by_rel_of, copied as copied_in, equal_pointers as equal_pointers_of, is_wild as is_wild_of, pointer_of as pointer_at, ranged as ranged_in, value_of as value_in};
+ghost use Rattle.cv_meaning.specs.Step as spec;
 ghost use Rattle.cv_interp.specs.Cells.{IsCellIfLive};
 ghost use Rattle.cv_interp.specs.Plans.{line_of as line_as, object_at as object_in, operand_slot as operand_slot_of, own_place, slot_at as slot_at_of, slot_if as slot_if_of};
 ghost use Rattle.cv_interp.specs.Seen.{frame, state};
@@ -55,8 +55,8 @@ fn ranged(
     requires small { k + 1 < 2 ^ 64 }
     requires known { HasSlot a.now.proc.now x.now }
     requires whole { IsWhole a.now.proc.now s.old }
-    ensures ok { IfOk result (λ j. (ranged_in p.now (frame a.now) k x.now z (state a.now.proc.now s.old) ≡ Ok (j, state a.now.proc.now s.new)) × IsKept s.old s.new) }
-    ensures err { IfErr result (λ e. (ranged_in p.now (frame a.now) k x.now z (state a.now.proc.now s.old) ≡ Err e) × (s.new ≡ s.old)) }
+    ensures ok { IfOk result (λ j. (spec.ranged p.now (frame a.now) k x.now z (state a.now.proc.now s.old) ≡ Ok (j, state a.now.proc.now s.new)) × IsKept s.old s.new) }
+    ensures err { IfErr result (λ e. (spec.ranged p.now (frame a.now) k x.now z (state a.now.proc.now s.old) ≡ Err e) × (s.new ≡ s.old)) }
 {
     if z < -2147483648 || z > 2147483647 {
         return Err(ErrKind::Range);
@@ -66,21 +66,21 @@ fn ranged(
 
 fn number_in(a: &Activation, s: &Store, e: &Operand, at: Slot) -> i32
     requires at { at ≡ operand_slot_of a.now.proc.now e.now }
-    ensures { result ≡ value_in (state a.now.proc.now s.now) e.now }
+    ensures { result ≡ spec.value_of (state a.now.proc.now s.now) e.now }
 {
     number_of(a.proc, s.room.vars.as_slice(), e, at)
 }
 
 fn pointer_in(a: &Activation, s: &Store, x: &Bytes, at: Slot) -> Ptr
     requires at { at ≡ slot_at_of a.now.proc.now x.now }
-    ensures { result ≡ pointer_at (state a.now.proc.now s.now) x.now }
+    ensures { result ≡ spec.pointer_of (state a.now.proc.now s.now) x.now }
 {
     pointer_of(a.proc, s.room.vars.as_slice(), x.as_slice(), at)
 }
 
 fn copied(a: &Activation, s: &Store, q: &Option<Bytes>, at: Slot) -> Value
     requires at { at ≡ slot_if_of a.now.proc.now q.now }
-    ensures { result ≡ copied_in (state a.now.proc.now s.now) q.now }
+    ensures { result ≡ spec.copied (state a.now.proc.now s.now) q.now }
 {
     match q {
         None => Value::Ptr(Ptr::Null),
@@ -208,7 +208,7 @@ fn kept(
 ) -> Result<usize, ErrKind>
     requires line { line.now ≡ line_as p.now a.now.proc.now (Form.Put w.now e.now) }
     requires small { k + 1 < 2 ^ 64 }
-    requires cell { IsCellIfLive s.old.room.memory (pointer_at (state a.now.proc.now s.old) w.now) }
+    requires cell { IsCellIfLive s.old.room.memory (spec.pointer_of (state a.now.proc.now s.old) w.now) }
     ensures { Takes p.now a.now k (Form.Put w.now e.now) s.old result s.new }
 {
     let v = any_value(a.proc, s.room.vars.as_slice(), e, line.second);
@@ -234,8 +234,8 @@ fn apart(
     requires small { k + 1 < 2 ^ 64 }
     requires known { HasSlot a.now.proc.now x.now }
     requires whole { IsWhole a.now.proc.now s.old }
-    requires first { IsNearPtr (pointer_at (state a.now.proc.now s.old) q.now) }
-    requires second { IsNearPtr (pointer_at (state a.now.proc.now s.old) r.now) }
+    requires first { IsNearPtr (spec.pointer_of (state a.now.proc.now s.old) q.now) }
+    requires second { IsNearPtr (spec.pointer_of (state a.now.proc.now s.old) r.now) }
     ensures { Takes p.now a.now k (Form.Diff x.now q.now r.now) s.old result s.new }
 {
     let from = pointer_in(a, s, q, line.second);
@@ -254,7 +254,7 @@ fn jumped(jumps: bool, to: u32, k: usize) -> usize
 }
 
 fn by_rel(r: Rel, b: bool) -> bool
-    ensures { result ≡ by_rel_of r b }
+    ensures { result ≡ spec.by_rel r b }
 {
     match r {
         Rel::Eq => b,
@@ -277,7 +277,7 @@ fn compare(r: Rel, a: i32, b: i32) -> bool
 }
 
 fn equal_pointers(p: Ptr, q: Ptr) -> bool
-    ensures { result ≡ equal_pointers_of p q }
+    ensures { result ≡ spec.equal_pointers p q }
 {
     match (p, q) {
         (Ptr::Null, Ptr::Null) => true,
@@ -296,7 +296,7 @@ fn equal_pointers(p: Ptr, q: Ptr) -> bool
 }
 
 fn is_wild(p: Ptr) -> bool
-    ensures { result ≡ is_wild_of p }
+    ensures { result ≡ spec.is_wild p }
 {
     matches!(p, Ptr::Wild)
 }
@@ -304,7 +304,7 @@ fn is_wild(p: Ptr) -> bool
 /// Where a comparison of pointers goes; where one of them is wild, a fresh number answers.
 fn branched(f: &Proc, r: Rel, p: Ptr, q: Ptr, to: u32, k: usize, s: &mut Store) -> usize
     requires { k + 1 < 2 ^ 64 }
-    ensures next { branch_pointers r p q to k (state f.now s.old) ≡ Ok (result, state f.now s.new) }
+    ensures next { spec.branch_pointers r p q to k (state f.now s.old) ≡ Ok (result, state f.now s.new) }
     ensures kept { IsKept s.old s.new }
 {
     if is_wild(p) || is_wild(q) {
@@ -319,7 +319,7 @@ fn branched(f: &Proc, r: Rel, p: Ptr, q: Ptr, to: u32, k: usize, s: &mut Store) 
 /// Where a comparison of two values goes.
 fn compared(f: &Proc, r: Rel, u: Value, v: Value, to: u32, k: usize, s: &mut Store) -> usize
     requires { k + 1 < 2 ^ 64 }
-    ensures next { branch r u v to k (state f.now s.old) ≡ Ok (result, state f.now s.new) }
+    ensures next { spec.branch r u v to k (state f.now s.old) ≡ Ok (result, state f.now s.new) }
     ensures kept { IsKept s.old s.new }
 {
     match u {

@@ -1,6 +1,6 @@
 //! What is taken from the world.
 ghost use Rattle.std.specs.Prelude.{◌≡◌, IfOk, drop, pos, slice_index_or, true};
-ghost use Rattle.cv_meaning.specs.Call.{answer_in as answer_within, byte_read as byte_in};
+ghost use Rattle.cv_meaning.specs.Call as spec;
 ghost use Rattle.cv_meaning.specs.State.{fresh as fresh_of, fresh_bytes as fresh_bytes_of};
 ghost use Rattle.cv_interp.specs.Seen.{left};
 
@@ -98,7 +98,7 @@ pub(crate) fn after_allocation(w: &World, taken: Taken) -> Taken
 
 /// The next byte of the input; -1 at its end.
 pub(crate) fn byte_read(w: &World, taken: Taken) -> i32
-    ensures { result ≡ byte_in (left w.now taken).input }
+    ensures { result ≡ spec.byte_read (left w.now taken).input }
 {
     match rest(&w.input, taken.input) {
         [] => -1,
@@ -116,7 +116,7 @@ pub(crate) fn after_byte(w: &World, taken: Taken) -> Taken
 
 /// The next extern answer where it is within a range, else the least of the range.
 pub(crate) fn answer_in(least: i64, most: i64, w: &World, taken: Taken) -> i64
-    ensures { result ≡ answer_within least most (left w.now taken).answers }
+    ensures { result ≡ spec.answer_in least most (left w.now taken).answers }
 {
     match rest(&w.answers, taken.answers) {
         [] => least,

@@ -5,7 +5,8 @@ use Rattle.cv_meaning.specs.State.{Frame}
 use Rattle.cv_interp.specs.Entered.{arrived}
 use Rattle.cv_interp.specs.Seen.{frame, state}
 use Rattle.cv_interp.proofs.Admitted.{called_as, calls_barred, calls_on, calls_refused}
-use Rattle.cv_interp.proofs.Limited.{are_few, few_globals, few_literals}
+use Rattle.cv_core.specs.Within.{few_globals, few_literals}
+use Rattle.cv_interp.proofs.Limited.{are_few}
 use Rattle.cv_interp.proofs.calls.call_proc.Goals as goal
 
 pub may_enter-requires-clause-few : goal.may_enter-requires-clause-few
