@@ -1,5 +1,5 @@
 -- What a call asks for, part by part.
-use Rattle.std.proofs.Common.{refl, ℕ, ℤ, zero, suc, ◌≡◌, ◌<◌, ◌≤◌, ◌+◌, ◌-◌, Bool, true, false, List, [], ◌∷◌, length, Option, Some, ap, arith, drop, inl, inr, pos, slice_index_or, subst, sym, take, ◌∙◌, ◌&&◌, ◌||◌, not}
+use Rattle.std.proofs.Common.{refl, ℕ, zero, suc, ◌≡◌, ◌<◌, ◌≤◌, ◌+◌, ◌-◌, Bool, true, false, List, [], ◌∷◌, length, Option, Some, ap, arith, drop, inl, inr, pos, slice_index_or, subst, sym, take, ◌∙◌, ◌&&◌, ◌||◌, not}
 use Rattle.std.specs.List.{Contains}
 use Rattle.std.specs.Option.{MatchOption}
 use Rattle.std.proofs.Math.Seq.{take-length}
@@ -10,11 +10,13 @@ use Rattle.cv_core.specs.declared.program.Item.{Item}
 use Rattle.cv_core.specs.declared.program.Proc.{Proc}
 use Rattle.cv_ppts.specs.Choices.{Choice, is_failing, item_target}
 use Rattle.cv_ppts.specs.Lacking.{Lacks}
+use Rattle.cv_ppts.specs.Numbers.{Rows, codes_of}
 use Rattle.cv_ppts.specs.Outcomes.{Given, gift, is_false_atom, settled, walked, with_gift}
 use Rattle.cv_ppts.specs.Plain.{HasCode, Sets, codes_at}
 use Rattle.cv_ppts.specs.Setting.{Setting, is_fresh}
 use Rattle.cv_ppts.specs.Targets.{AfterHolds, AlternativeHolds, AreLost, CellAsked, ChoiceHolds, GivenHolds, IsAsked, IsLost, MallocHolds, MaybeAsked, alternatives, assigned, is_new}
-use Rattle.cv_ppts.specs.declared.outcomes.Code.{Code}
+use Rattle.cv_ppts.specs.declared.code.Code.{Code}
+use Rattle.cv_ppts.specs.declared.code.Code.TheVariants as coded
 use Rattle.cv_ppts.specs.declared.outcomes.Gift.{Gift}
 use Rattle.cv_ppts.specs.declared.sets.Missing.{Missing}
 use Rattle.cv_ppts.proofs.Lacked.{answer_part, each_more, each_none, in_first, lacks_part}
@@ -27,37 +29,41 @@ empty_past [] (suc h) l = refl
 empty_past (cs ∷ T) zero l = absurd (omega arith)
 empty_past (cs ∷ T) (suc h) l = empty_past T h (omega arith)
 
-nothing_past : (T : Sets) (h : ℕ) (c : ℤ) → length T ≤ h → HasCode T h c → ⊥
+nothing_past : (T : Sets) (h : ℕ) (c : Code) → length T ≤ h → HasCode T h c → ⊥
 nothing_past T h c l x = let (k, lt, e) = subst (λ cs. Contains cs c) (empty_past T h l) x in omega arith
 
-pub lost_all : (T : Sets) (t : ℤ) (into : Option ℕ) (i : ℕ) → length T ≤ i → ((k : ℕ) → k < i → (into ≡ Some k → ⊥) → IsLost T t k) → AreLost T t into
-lost_all T t into i l before h ne = elim (cases_lt h i) [ inl lt ↦ before h lt ne | inr ge ↦ λ x. absurd (nothing_past T h t (omega arith) x) ]
+pub as_long : (S : Rows) → length (codes_of S) ≡ length S
+as_long [] = refl
+as_long (ns ∷ S) = ap suc (as_long S)
+
+pub lost_all : (T : Sets) (t : ℕ) (into : Option ℕ) (i : ℕ) → length T ≤ i → ((k : ℕ) → k < i → (into ≡ Some k → ⊥) → IsLost T t k) → AreLost T t into
+lost_all T t into i l before h ne = elim (cases_lt h i) [ inl lt ↦ before h lt ne | inr ge ↦ λ x. absurd (nothing_past T h (coded.Target t) (omega arith) x) ]
 
 -- ---- malloc
 
-pub malloc_first : (T : Sets) (t : ℤ) (into : Option ℕ) (h to : ℕ) (code : ℤ) → into ≡ Some h → Lacks T (λ R. HasCode R h (pos 0)) to code → Lacks T (λ R. MallocHolds R t into) to code
+pub malloc_first : (T : Sets) (t : ℕ) (into : Option ℕ) (h to : ℕ) (code : Code) → into ≡ Some h → Lacks T (λ R. HasCode R h coded.Null) to code → Lacks T (λ R. MallocHolds R t into) to code
 malloc_first T t into h to code e l =
     subst (λ o. Lacks T (λ R. MallocHolds R t o) to code) (sym e)
-    (lacks_part T (λ R. HasCode R h (pos 0)) (λ R. MallocHolds R t (Some h)) to code (λ R within w. w.0) l)
+    (lacks_part T (λ R. HasCode R h coded.Null) (λ R. MallocHolds R t (Some h)) to code (λ R within w. w.0) l)
 
-pub malloc_second : (T : Sets) (t : ℤ) (into : Option ℕ) (h : ℕ) (o : Option Missing) → into ≡ Some h → HasCode T h (pos 0) → MatchOption o (HasCode T h t) (λ m. Lacks T (λ R. HasCode R h t) m.to m.code) →
+pub malloc_second : (T : Sets) (t : ℕ) (into : Option ℕ) (h : ℕ) (o : Option Missing) → into ≡ Some h → HasCode T h coded.Null → MatchOption o (HasCode T h (coded.Target t)) (λ m. Lacks T (λ R. HasCode R h (coded.Target t)) m.to m.code) →
     MatchOption o (MallocHolds T t into) (λ m. Lacks T (λ R. MallocHolds R t into) m.to m.code)
 malloc_second T t into h o e zero_there l =
     subst (λ i. MatchOption o (MallocHolds T t i) (λ m. Lacks T (λ R. MallocHolds R t i) m.to m.code)) (sym e)
-    (answer_part T (λ R. HasCode R h t) (λ R. MallocHolds R t (Some h)) o (λ q. (zero_there, q)) (λ R within w. w.1) l)
+    (answer_part T (λ R. HasCode R h (coded.Target t)) (λ R. MallocHolds R t (Some h)) o (λ q. (zero_there, q)) (λ R within w. w.1) l)
 
 -- ---- what is asked for a code
 
-pub asked_first : (T : Sets) (t : ℤ) (fresh : Bool) (c : Code) (h to : ℕ) (v code : ℤ) → v ≡ assigned t fresh c → Lacks T (λ R. HasCode R h v) to code → Lacks T (λ R. IsAsked R t fresh c h) to code
+pub asked_first : (T : Sets) (t : ℕ) (fresh : Bool) (c : Code) (h to : ℕ) (v code : Code) → v ≡ assigned t fresh c → Lacks T (λ R. HasCode R h v) to code → Lacks T (λ R. IsAsked R t fresh c h) to code
 asked_first T t fresh c h to v code e l = lacks_part T (λ R. HasCode R h v) (λ R. IsAsked R t fresh c h) to code (λ R within w. subst (λ z. HasCode R h z) (sym e) w.code) l
 
-pub asked_second : (T : Sets) (t : ℤ) (fresh : Bool) (c : Code) (h : ℕ) (v : ℤ) (o : Option Missing) → v ≡ assigned t fresh c → HasCode T h v → (fresh && not (is_new c)) ≡ true →
+pub asked_second : (T : Sets) (t : ℕ) (fresh : Bool) (c : Code) (h : ℕ) (v : Code) (o : Option Missing) → v ≡ assigned t fresh c → HasCode T h v → (fresh && not (is_new c)) ≡ true →
     MatchOption o (IsLost T t h) (λ m. Lacks T (λ R. IsLost R t h) m.to m.code) → MatchOption o (IsAsked T t fresh c h) (λ m. Lacks T (λ R. IsAsked R t fresh c h) m.to m.code)
 asked_second T t fresh c h v o e there b l =
     answer_part T (λ R. IsLost R t h) (λ R. IsAsked R t fresh c h) o
     (λ q. record { code = subst (λ z. HasCode T h z) e there; lost = λ x. q }) (λ R within w. w.lost b) l
 
-pub asked_all : (T : Sets) (t : ℤ) (fresh : Bool) (c : Code) (h : ℕ) (v : ℤ) → v ≡ assigned t fresh c → HasCode T h v → (fresh && not (is_new c)) ≡ false → IsAsked T t fresh c h
+pub asked_all : (T : Sets) (t : ℕ) (fresh : Bool) (c : Code) (h : ℕ) (v : Code) → v ≡ assigned t fresh c → HasCode T h v → (fresh && not (is_new c)) ≡ false → IsAsked T t fresh c h
 asked_all T t fresh c h v e there b = record { code = subst (λ z. HasCode T h z) e there; lost = λ x. absurd (let f : true ≡ false = sym x ∙ b in cc) }
 
 -- ---- the first of some
@@ -70,13 +76,13 @@ peeled (y ∷ ys) x d le is =
 
 -- ---- what is given
 
-pub given_first : (s : Setting) (T : Sets) (t : ℤ) (into : Option ℕ) (g : Proc) (K : Choice) (fresh : Bool) (given : Given) (v : Code) (to : ℕ) (code : ℤ) → v ≡ settled (given 0) →
+pub given_first : (s : Setting) (T : Sets) (t : ℕ) (into : Option ℕ) (g : Proc) (K : Choice) (fresh : Bool) (given : Given) (v : Code) (to : ℕ) (code : Code) → v ≡ settled (given 0) →
     Lacks T (λ R. MaybeAsked R t fresh v into) to code → Lacks T (λ R. GivenHolds s R t into g K fresh given) to code
 given_first s T t into g K fresh given v to code e l =
     lacks_part T (λ R. MaybeAsked R t fresh v into) (λ R. GivenHolds s R t into g K fresh given) to code
     (λ R within w. subst (λ z. MaybeAsked R t fresh z into) (sym e) w.result) l
 
-pub given_rest : (s : Setting) (T : Sets) (t : ℤ) (into : Option ℕ) (g : Proc) (K : Choice) (fresh : Bool) (given : Given) (v : Code) (items : List Item) (o : Option Missing) → v ≡ settled (given 0) → items ≡ g.contract.changes →
+pub given_rest : (s : Setting) (T : Sets) (t : ℕ) (into : Option ℕ) (g : Proc) (K : Choice) (fresh : Bool) (given : Given) (v : Code) (items : List Item) (o : Option Missing) → v ≡ settled (given 0) → items ≡ g.contract.changes →
     MaybeAsked T t fresh v into →
     MatchOption o ((x : Item) → Contains items x → CellAsked s T t fresh given (item_target s g K x)) (λ m. Lacks T (λ R. (x : Item) → Contains items x → CellAsked s R t fresh given (item_target s g K x)) m.to m.code) →
     MatchOption o (GivenHolds s T t into g K fresh given) (λ m. Lacks T (λ R. GivenHolds s R t into g K fresh given) m.to m.code)
@@ -85,7 +91,7 @@ given_rest s T t into g K fresh given v items o e f here l =
     (λ q. record { result = subst (λ z. MaybeAsked T t fresh z into) e here; cells = subst (λ ys. (x : Item) → Contains ys x → CellAsked s T t fresh given (item_target s g K x)) f q })
     (λ R within w. subst (λ ys. (x : Item) → Contains ys x → CellAsked s R t fresh given (item_target s g K x)) (sym f) w.cells) l
 
-pub after_given : (s : Setting) (T : Sets) (t : ℤ) (into : Option ℕ) (g : Proc) (K : Choice) (atoms : List Atom) (given : Given) (fresh : Bool) (o : Option Missing) → list_any (is_false_atom s g K given) atoms ≡ false → fresh ≡ list_any is_fresh atoms →
+pub after_given : (s : Setting) (T : Sets) (t : ℕ) (into : Option ℕ) (g : Proc) (K : Choice) (atoms : List Atom) (given : Given) (fresh : Bool) (o : Option Missing) → list_any (is_false_atom s g K given) atoms ≡ false → fresh ≡ list_any is_fresh atoms →
     MatchOption o (GivenHolds s T t into g K fresh given) (λ m. Lacks T (λ R. GivenHolds s R t into g K fresh given) m.to m.code) →
     MatchOption o (AfterHolds s T t into g K atoms given) (λ m. Lacks T (λ R. AfterHolds s R t into g K atoms given) m.to m.code)
 after_given s T t into g K atoms given fresh o e f l =
@@ -93,12 +99,12 @@ after_given s T t into g K atoms given fresh o e f l =
     (λ q x. subst (λ b. GivenHolds s T t into g K b given) f q)
     (λ R within w. subst (λ b. GivenHolds s R t into g K b given) (sym f) (w e)) l
 
-pub after_none : (s : Setting) (T : Sets) (t : ℤ) (into : Option ℕ) (g : Proc) (K : Choice) (atoms : List Atom) (given : Given) → list_any (is_false_atom s g K given) atoms ≡ true → AfterHolds s T t into g K atoms given
+pub after_none : (s : Setting) (T : Sets) (t : ℕ) (into : Option ℕ) (g : Proc) (K : Choice) (atoms : List Atom) (given : Given) → list_any (is_false_atom s g K given) atoms ≡ true → AfterHolds s T t into g K atoms given
 after_none s T t into g K atoms given e = λ x. absurd (let f : true ≡ false = sym e ∙ x in cc)
 
 -- ---- the walk over an alternative
 
-pub walk_moves : (s : Setting) (T : Sets) (t : ℤ) (into : Option ℕ) (g : Proc) (K : Choice) (atoms rest more : List Atom) (given next : Given) (o : Option Missing) → walked s g K given rest ≡ walked s g K next more →
+pub walk_moves : (s : Setting) (T : Sets) (t : ℕ) (into : Option ℕ) (g : Proc) (K : Choice) (atoms rest more : List Atom) (given next : Given) (o : Option Missing) → walked s g K given rest ≡ walked s g K next more →
     MatchOption o (AfterHolds s T t into g K atoms (walked s g K next more)) (λ m. Lacks T (λ R. AfterHolds s R t into g K atoms (walked s g K next more)) m.to m.code) →
     MatchOption o (AfterHolds s T t into g K atoms (walked s g K given rest)) (λ m. Lacks T (λ R. AfterHolds s R t into g K atoms (walked s g K given rest)) m.to m.code)
 walk_moves s T t into g K atoms rest more given next o e l =
@@ -110,7 +116,7 @@ walk_step s g K given rest more a gift_is e f = ap (walked s g K given) e ∙ ap
 
 -- ---- alternatives and choices
 
-pub no_ensures : (s : Setting) (T : Sets) (t : ℤ) (into : Option ℕ) (g : Proc) (K : Choice) (gives : List (List Atom)) (o : Option Missing) → gives ≡ [] →
+pub no_ensures : (s : Setting) (T : Sets) (t : ℕ) (into : Option ℕ) (g : Proc) (K : Choice) (gives : List (List Atom)) (o : Option Missing) → gives ≡ [] →
     MatchOption o (AlternativeHolds s T t into g K []) (λ m. Lacks T (λ R. AlternativeHolds s R t into g K []) m.to m.code) →
     MatchOption o ((atoms : List Atom) → Contains (alternatives gives) atoms → AlternativeHolds s T t into g K atoms) (λ m. Lacks T (λ R. (atoms : List Atom) → Contains (alternatives gives) atoms → AlternativeHolds s R t into g K atoms) m.to m.code)
 no_ensures s T t into g K gives o e l =
@@ -122,14 +128,14 @@ some_alternatives : (gives : List (List Atom)) → (gives ≡ [] → ⊥) → al
 some_alternatives [] h = absurd (h refl)
 some_alternatives (a ∷ more) h = refl
 
-pub some_ensures : (s : Setting) (T : Sets) (t : ℤ) (into : Option ℕ) (g : Proc) (K : Choice) (gives : List (List Atom)) (o : Option Missing) → (gives ≡ [] → ⊥) →
+pub some_ensures : (s : Setting) (T : Sets) (t : ℕ) (into : Option ℕ) (g : Proc) (K : Choice) (gives : List (List Atom)) (o : Option Missing) → (gives ≡ [] → ⊥) →
     MatchOption o ((atoms : List Atom) → Contains gives atoms → AlternativeHolds s T t into g K atoms) (λ m. Lacks T (λ R. (atoms : List Atom) → Contains gives atoms → AlternativeHolds s R t into g K atoms) m.to m.code) →
     MatchOption o ((atoms : List Atom) → Contains (alternatives gives) atoms → AlternativeHolds s T t into g K atoms) (λ m. Lacks T (λ R. (atoms : List Atom) → Contains (alternatives gives) atoms → AlternativeHolds s R t into g K atoms) m.to m.code)
 some_ensures s T t into g K gives o h l =
     subst (λ xs. MatchOption o ((atoms : List Atom) → Contains xs atoms → AlternativeHolds s T t into g K atoms) (λ m. Lacks T (λ R. (atoms : List Atom) → Contains xs atoms → AlternativeHolds s R t into g K atoms) m.to m.code))
     (sym (some_alternatives gives h)) l
 
-pub choice_passes : (s : Setting) (T : Sets) (t : ℤ) (into : Option ℕ) (g : Proc) (K : Choice) (gives : List (List Atom)) (o : Option Missing) → gives ≡ g.contract.gives → is_failing s g K ≡ false →
+pub choice_passes : (s : Setting) (T : Sets) (t : ℕ) (into : Option ℕ) (g : Proc) (K : Choice) (gives : List (List Atom)) (o : Option Missing) → gives ≡ g.contract.gives → is_failing s g K ≡ false →
     MatchOption o ((atoms : List Atom) → Contains (alternatives gives) atoms → AlternativeHolds s T t into g K atoms) (λ m. Lacks T (λ R. (atoms : List Atom) → Contains (alternatives gives) atoms → AlternativeHolds s R t into g K atoms) m.to m.code) →
     MatchOption o (ChoiceHolds s T t into g K) (λ m. Lacks T (λ R. ChoiceHolds s R t into g K) m.to m.code)
 choice_passes s T t into g K gives o e f l =
@@ -137,7 +143,7 @@ choice_passes s T t into g K gives o e f l =
     (λ q x. subst (λ xs. (atoms : List Atom) → Contains (alternatives xs) atoms → AlternativeHolds s T t into g K atoms) e q)
     (λ R within w. subst (λ xs. (atoms : List Atom) → Contains (alternatives xs) atoms → AlternativeHolds s R t into g K atoms) (sym e) (w f)) l
 
-pub choice_fails : (s : Setting) (T : Sets) (t : ℤ) (into : Option ℕ) (g : Proc) (K : Choice) → is_failing s g K ≡ true → ChoiceHolds s T t into g K
+pub choice_fails : (s : Setting) (T : Sets) (t : ℕ) (into : Option ℕ) (g : Proc) (K : Choice) → is_failing s g K ≡ true → ChoiceHolds s T t into g K
 choice_fails s T t into g K e = λ x. absurd (let f : true ≡ false = sym e ∙ x in cc)
 
 pub fewer : {X : Type 0} (xs : List X) (x : X) (more : List X) (number all : ℕ) → xs ≡ x ∷ more → number + length xs ≤ all → number + 1 + length more ≤ all

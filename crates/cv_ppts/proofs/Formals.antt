@@ -1,6 +1,6 @@
 -- The formals of a call, from the first to the last.
 use Rattle.cv_core.specs.Names.{is_pointer_kind}
-use Rattle.std.proofs.Common.{refl, ℕ, ℤ, zero, suc, ◌≡◌, ◌<◌, ◌≤◌, ◌+◌, Bool, true, false, List, [], ◌∷◌, length, Option, Some, None, add-one, ap, arith, drop, if◌then◌else◌, inl, inr, pos, slice_get, slice_index_or, subst, sym, ◌∙◌, ◌⊎◌}
+use Rattle.std.proofs.Common.{refl, ℕ, zero, suc, ◌≡◌, ◌<◌, ◌≤◌, ◌+◌, Bool, true, false, List, [], ◌∷◌, length, Option, Some, None, add-one, ap, arith, drop, if◌then◌else◌, inl, inr, pos, ℤ, slice_get, slice_index_or, subst, sym, ◌∙◌, ◌⊎◌}
 use Rattle.std.specs.List.{Contains}
 use Rattle.std.specs.Option.{MatchOption}
 use Rattle.std.proofs.lemmas.Bool.{cases_lt}
@@ -11,15 +11,17 @@ use Rattle.cv_core.specs.declared.program.Proc.{Proc}
 use Rattle.cv_core.specs.declared.program.AnyOperand.TheVariants as any
 use Rattle.cv_core.specs.declared.program.Operand.TheVariants as operand
 use Rattle.cv_points.specs.Holders.{variable_number}
-use Rattle.cv_ppts.specs.Choices.{argument_codes, argument_set, set_for}
+use Rattle.cv_ppts.specs.Choices.{argument_codes, argument_set, changes_pointer, set_for}
 use Rattle.cv_ppts.specs.Lacking.{CellsOver, FormalsAhead, FormalsOver, FormalsPicked, Lacks}
+use Rattle.cv_ppts.specs.Numbers.{code_of, row_codes}
 use Rattle.cv_ppts.specs.Picked.{has_pick, pick_at}
 use Rattle.cv_ppts.specs.Plain.{IsWithin, Sets}
 use Rattle.cv_ppts.specs.Setting.{Setting}
 use Rattle.cv_ppts.specs.Targets.{CalleeHolds, Whether}
+use Rattle.cv_ppts.specs.declared.code.Code.{Code}
 use Rattle.cv_ppts.specs.declared.picks.Picks.{Done, Pick', Picks}
 use Rattle.cv_ppts.specs.declared.sets.Missing.{Missing}
-use Rattle.cv_ppts.proofs.Lacked.{all_passed, answer_part, contains_at}
+use Rattle.cv_ppts.proofs.Lacked.{all_passed, answer_part, in_row}
 use Rattle.cv_ppts.proofs.Overs.{lacks_pick, over_end, over_pick, over_start, place_grows}
 
 get_within : {X : Type 0} (xs : List X) (i : ℕ) (x : X) → slice_get xs i ≡ Some x → i < length xs
@@ -56,7 +58,7 @@ formals_none s g args rest number L R h e i none = by_formal (slice_get g.formal
     by_formal None f = refl
     by_formal (Some x) f = by_kind x (is_pointer_kind x.kind) refl f
 
-pub formals_end : (s : Setting) (T : Sets) (t : ℤ) (into : Option ℕ) (g : Proc) (args : List AnyOperand) (rest : List Formal) (number : ℕ) (L : Picks) (o : Option Missing) → FormalsAhead g rest number L → rest ≡ [] →
+pub formals_end : (s : Setting) (T : Sets) (t : ℕ) (into : Option ℕ) (g : Proc) (args : List AnyOperand) (rest : List Formal) (number : ℕ) (L : Picks) (o : Option Missing) → FormalsAhead g rest number L → rest ≡ [] →
     MatchOption o (CellsOver s T t into g (pick_at L) Done) (λ m. Lacks T (λ R. CellsOver s R t into g (pick_at L) Done) m.to m.code) →
     MatchOption o (FormalsOver s T t into g args L) (λ m. Lacks T (λ R. FormalsOver s R t into g args L) m.to m.code)
 formals_end s T t into g args rest number L o h e l =
@@ -86,7 +88,7 @@ formals_skip g rest more x number L e k h =
       later = λ i le. h.later i (omega arith);
     }
 
-pub formals_pick : (g : Proc) (rest more : List Formal) (x : Formal) (number : ℕ) (c : ℤ) (p : _) (L : Picks) → rest ≡ x ∷ more → FormalsAhead g rest number L → FormalsAhead g more (number + 1) (Pick' number c p L)
+pub formals_pick : (g : Proc) (rest more : List Formal) (x : Formal) (number : ℕ) (c : Code) (p : _) (L : Picks) → rest ≡ x ∷ more → FormalsAhead g rest number L → FormalsAhead g more (number + 1) (Pick' number c p L)
 formals_pick g rest more x number c p L e h =
     let first = drop_first g.formals number x more (h.left ∙ e) in
     record {
@@ -106,7 +108,7 @@ formals_pick g rest more x number c p L e h =
 
 -- ---- the codes of an argument
 
-arguments_grow : (s : Setting) (T R : Sets) (a : Option AnyOperand) (c : ℤ) → IsWithin T R → Contains (argument_codes s T a) c → Contains (argument_codes s R a) c
+arguments_grow : (s : Setting) (T R : Sets) (a : Option AnyOperand) (c : Code) → IsWithin T R → Contains (argument_codes s T a) c → Contains (argument_codes s R a) c
 arguments_grow s T R None c within x = x
 arguments_grow s T R (Some any.Null) c within x = x
 arguments_grow s T R (Some (any.Operand (operand.Var y))) c within x = place_grows T R (variable_number s.proc y) c within x
@@ -116,24 +118,24 @@ set_here : (s : Setting) (R : Sets) (g : Proc) (args : List AnyOperand) (number 
 set_here s R g args number x e k =
     ap (λ o. set_for o (argument_codes s R (slice_get args number))) e ∙ ap (λ b. if b then Some (argument_codes s R (slice_get args number)) else None) k
 
-pub formals_lack : (s : Setting) (T : Sets) (t : ℤ) (into : Option ℕ) (g : Proc) (args : List AnyOperand) (rest more : List Formal) (x : Formal) (number : ℕ) (L : Picks) (cs : List ℤ) (i to : ℕ) (code : ℤ) →
-    FormalsAhead g rest number L → rest ≡ x ∷ more → is_pointer_kind x.kind ≡ true → cs ≡ argument_codes s T (slice_get args number) → i < length cs →
-    Lacks T (λ R. FormalsPicked s R t into g args number (slice_index_or cs i (pos 0)) L) to code → Lacks T (λ R. FormalsOver s R t into g args L) to code
-formals_lack s T t into g args rest more x number L cs i to code h e k f lt l =
-    lacks_pick (λ R. argument_set s R g args) (λ R formal. CellsOver s R t into g formal Done) T L number (slice_index_or cs i (pos 0)) to code (h.later number (omega arith))
+pub formals_lack : (s : Setting) (T : Sets) (t : ℕ) (into : Option ℕ) (g : Proc) (args : List AnyOperand) (rest more : List Formal) (x : Formal) (number : ℕ) (L : Picks) (ns : List ℤ) (i to : ℕ) (c code : Code) →
+    FormalsAhead g rest number L → rest ≡ x ∷ more → is_pointer_kind x.kind ≡ true → row_codes ns ≡ argument_codes s T (slice_get args number) → i < length ns → c ≡ code_of (slice_index_or ns i (pos 0)) →
+    Lacks T (λ R. FormalsPicked s R t into g args number c L) to code → Lacks T (λ R. FormalsOver s R t into g args L) to code
+formals_lack s T t into g args rest more x number L ns i to c code h e k f lt is l =
+    lacks_pick (λ R. argument_set s R g args) (λ R formal. CellsOver s R t into g formal Done) T L number c to code (h.later number (omega arith))
     (λ R within. record {
       codes = argument_codes s R (slice_get args number);
       is = set_here s R g args number x (drop_first g.formals number x more (h.left ∙ e)).0 k;
-      there = arguments_grow s T R (slice_get args number) (slice_index_or cs i (pos 0)) within (subst (λ xs. Contains xs (slice_index_or cs i (pos 0))) f (contains_at cs i lt));
+      there = arguments_grow s T R (slice_get args number) c within (subst (λ xs. Contains xs c) f (subst (λ z. Contains (row_codes ns) z) (sym is) (in_row ns i lt)));
     }) l
 
-pub formals_all : (s : Setting) (T : Sets) (t : ℤ) (into : Option ℕ) (g : Proc) (args : List AnyOperand) (rest more : List Formal) (x : Formal) (number : ℕ) (L : Picks) (cs : List ℤ) (i : ℕ) →
-    FormalsAhead g rest number L → rest ≡ x ∷ more → is_pointer_kind x.kind ≡ true → cs ≡ argument_codes s T (slice_get args number) → length cs ≤ i →
-    ((k : ℕ) (d : ℤ) → k < i → FormalsPicked s T t into g args number (slice_index_or cs k d) L) → FormalsOver s T t into g args L
-formals_all s T t into g args rest more x number L cs i h e k f ge before =
-    over_pick (argument_set s T g args) L (λ formal. CellsOver s T t into g formal Done) number cs (h.later number (omega arith))
+pub formals_all : (s : Setting) (T : Sets) (t : ℕ) (into : Option ℕ) (g : Proc) (args : List AnyOperand) (rest more : List Formal) (x : Formal) (number : ℕ) (L : Picks) (ns : List ℤ) (i : ℕ) →
+    FormalsAhead g rest number L → rest ≡ x ∷ more → is_pointer_kind x.kind ≡ true → row_codes ns ≡ argument_codes s T (slice_get args number) → length ns ≤ i →
+    ((k : ℕ) (d : ℤ) → k < i → FormalsPicked s T t into g args number (code_of (slice_index_or ns k d)) L) → FormalsOver s T t into g args L
+formals_all s T t into g args rest more x number L ns i h e k f ge before =
+    over_pick (argument_set s T g args) L (λ formal. CellsOver s T t into g formal Done) number (row_codes ns) (h.later number (omega arith))
     (set_here s T g args number x (drop_first g.formals number x more (h.left ∙ e)).0 k ∙ ap (λ xs. Some xs) (sym f))
-    (all_passed (λ c. FormalsPicked s T t into g args number c L) cs i ge before)
+    (all_passed (λ c. FormalsPicked s T t into g args number c L) ns i ge before)
 
 pub formals_begin : (g : Proc) (fs : List Formal) → fs ≡ g.formals → FormalsAhead g fs 0 Done
 formals_begin g fs e = record {
@@ -144,18 +146,21 @@ formals_begin g fs e = record {
 
 -- ---- the call of a procedure
 
-pub callee_as : (s : Setting) (T : Sets) (t : ℤ) (into : Option ℕ) (g : Proc) (args : List AnyOperand) (o : Option Missing) →
+pub callee_as : (s : Setting) (T : Sets) (t : ℕ) (into : Option ℕ) (g : Proc) (args : List AnyOperand) (o : Option Missing) → changes_pointer s g into ≡ true →
     MatchOption o (FormalsOver s T t into g args Done) (λ m. Lacks T (λ R. FormalsOver s R t into g args Done) m.to m.code) →
     MatchOption o (CalleeHolds s T t into args (Some g)) (λ m. Lacks T (λ R. CalleeHolds s R t into args (Some g)) m.to m.code)
-callee_as s T t into g args o l =
+callee_as s T t into g args o e l =
     answer_part T (λ R. FormalsOver s R t into g args Done) (λ R. CalleeHolds s R t into args (Some g)) o
-    (λ q K h. q K.formal h.formals K.cell h.cells)
-    (λ R within w formal h cell k. w (record { formal = formal; cell = cell }) (record { formals = h; cells = k })) l
+    (λ q f K h. q K.formal h.formals K.cell h.cells)
+    (λ R within w formal h cell k. w e (record { formal = formal; cell = cell }) (record { formals = h; cells = k })) l
 
-pub procedure_none : (s : Setting) (T : Sets) (t : ℤ) (into : Option ℕ) (args : List AnyOperand) (g : Option Proc) → g ≡ None → CalleeHolds s T t into args g
+pub callee_none : (s : Setting) (T : Sets) (t : ℕ) (into : Option ℕ) (g : Proc) (args : List AnyOperand) → changes_pointer s g into ≡ false → CalleeHolds s T t into args (Some g)
+callee_none s T t into g args e = λ f. absurd (let no : true ≡ false = sym f ∙ e in cc)
+
+pub procedure_none : (s : Setting) (T : Sets) (t : ℕ) (into : Option ℕ) (args : List AnyOperand) (g : Option Proc) → g ≡ None → CalleeHolds s T t into args g
 procedure_none s T t into args g e = subst (λ o. CalleeHolds s T t into args o) (sym e) tt
 
-pub procedure_as : (s : Setting) (T : Sets) (t : ℤ) (into : Option ℕ) (args : List AnyOperand) (g found : Option Proc) (o : Option Missing) → g ≡ found →
+pub procedure_as : (s : Setting) (T : Sets) (t : ℕ) (into : Option ℕ) (args : List AnyOperand) (g found : Option Proc) (o : Option Missing) → g ≡ found →
     MatchOption o (CalleeHolds s T t into args found) (λ m. Lacks T (λ R. CalleeHolds s R t into args found) m.to m.code) →
     MatchOption o (CalleeHolds s T t into args g) (λ m. Lacks T (λ R. CalleeHolds s R t into args g) m.to m.code)
 procedure_as s T t into args g found o e l =

@@ -1,45 +1,21 @@
 -- What codes lack for a part they lack for the whole.
-use Rattle.std.proofs.Common.{refl, ℕ, zero, suc, ◌≡◌, ◌<◌, ◌≤◌, ◌+◌, List, [], ◌∷◌, length, slice_index_or, subst, sym, below_more, arith, Option, Some, None, ℤ, pos, FitsSigned, of_z, to_z, w32}
+use Rattle.std.proofs.Common.{refl, ℕ, zero, suc, ◌≡◌, ◌<◌, ◌≤◌, ◌+◌, List, [], ◌∷◌, length, slice_index_or, subst, sym, below_more, arith, Option, Some, None, pos, ℤ, FitsSigned, of_z, to_z, w32}
 use Rattle.std.specs.List.{Contains}
 use Rattle.std.specs.Option.{MatchOption}
 use Rattle.std.proofs.lemmas.Int.{to_z-of_z}
 use Rattle.std.proofs.lemmas.List.{get_or_default}
 use Rattle.cv_ppts.specs.Lacking.{Lacks}
+use Rattle.cv_ppts.specs.Numbers.{code_of, row_codes}
 use Rattle.cv_ppts.specs.Plain.{HasCode, IsWithin, Sets, codes_at}
+use Rattle.cv_ppts.specs.declared.code.Code.{Code}
 use Rattle.cv_ppts.specs.declared.sets.Missing.{Missing}
 
-pub lacks_part : (T : Sets) (Q W : Sets → Type 0) (to : ℕ) (code : ℤ) → ((R : Sets) → IsWithin T R → W R → Q R) → Lacks T Q to code → Lacks T W to code
+pub lacks_part : (T : Sets) (Q W : Sets → Type 0) (to : ℕ) (code : Code) → ((R : Sets) → IsWithin T R → W R → Q R) → Lacks T Q to code → Lacks T W to code
 lacks_part T Q W to code part h = record {
   absent = h.absent;
   fails = λ w. h.fails (part T (λ p c x. x) w);
   asked = λ R within w. h.asked R within (part R within w);
 }
-
--- ---- loops over codes
-
-pub passed : (P : ℤ → Type 0) (xs : List ℤ) (i : ℕ) → i < length xs → ((k : ℕ) (d : ℤ) → k < i → P (slice_index_or xs k d)) → P (slice_index_or xs i (pos 0)) → (k : ℕ) (d : ℤ) → k < i + 1 → P (slice_index_or xs k d)
-passed P xs i h before here k d lt =
-    below_more (λ k. P (slice_index_or xs k d)) i (λ k lt. before k d lt) (subst P (get_or_default xs i (pos 0) d h) here) k lt
-
-pub all_passed : (P : ℤ → Type 0) (xs : List ℤ) (i : ℕ) → length xs ≤ i → ((k : ℕ) (d : ℤ) → k < i → P (slice_index_or xs k d)) → (c : ℤ) → Contains xs c → P c
-all_passed P xs i h before c (k, lt, e) = subst P e (before k c (omega arith))
-
-pub contains_at : (xs : List ℤ) (i : ℕ) → i < length xs → Contains xs (slice_index_or xs i (pos 0))
-contains_at xs i h = (i, h, get_or_default xs i (slice_index_or xs i (pos 0)) (pos 0) h)
-
--- one of some codes
-pub lacks_one : (P : Sets → ℤ → Type 0) (T : Sets) (xs : List ℤ) (i to : ℕ) (code : ℤ) → i < length xs → Lacks T (λ R. P R (slice_index_or xs i (pos 0))) to code → Lacks T (λ R. (c : ℤ) → Contains xs c → P R c) to code
-lacks_one P T xs i to code h l =
-    lacks_part T (λ R. P R (slice_index_or xs i (pos 0))) (λ R. (c : ℤ) → Contains xs c → P R c) to code (λ R within w. w (slice_index_or xs i (pos 0)) (contains_at xs i h)) l
-
--- the codes of a set
-pub over_place : (P : Sets → ℤ → Type 0) (T : Sets) (cs : List ℤ) (from : ℕ) (o : Option Missing) → cs ≡ codes_at T from →
-    MatchOption o ((c : ℤ) → Contains cs c → P T c) (λ m. Lacks T (λ R. (c : ℤ) → Contains cs c → P R c) m.to m.code) →
-    MatchOption o ((c : ℤ) → HasCode T from c → P T c) (λ m. Lacks T (λ R. (c : ℤ) → HasCode R from c → P R c) m.to m.code)
-over_place P T cs from None e h = λ c x. h c (subst (λ xs. Contains xs c) (sym e) x)
-over_place P T cs from (Some m) e h =
-    lacks_part T (λ R. (c : ℤ) → Contains cs c → P R c) (λ R. (c : ℤ) → HasCode R from c → P R c) m.to m.code
-    (λ R within w c x. w c (within from c (subst (λ xs. Contains xs c) e x))) h
 
 -- ---- lists of which each element is asked for
 
@@ -55,6 +31,45 @@ in_first x xs = (0, omega arith, refl)
 
 pub in_later : {X : Type 0} (x y : X) (xs : List X) → Contains xs y → Contains (x ∷ xs) y
 in_later x y xs (k, lt, e) = (suc k, omega arith, e)
+
+-- ---- loops over the numbers of a row, whose codes are asked for
+
+pub in_row : (ns : List ℤ) (i : ℕ) → i < length ns → Contains (row_codes ns) (code_of (slice_index_or ns i (pos 0)))
+in_row [] i h = absurd (omega arith)
+in_row (n ∷ ns) zero h = in_first (code_of n) (row_codes ns)
+in_row (n ∷ ns) (suc i) h = in_later (code_of n) (code_of (slice_index_or ns i (pos 0))) (row_codes ns) (in_row ns i (omega arith))
+
+over_row : (P : Code → Type 0) (ns : List ℤ) → ((k : ℕ) (d : ℤ) → k < length ns → P (code_of (slice_index_or ns k d))) → (c : Code) → Contains (row_codes ns) c → P c
+over_row P [] h c m = each_none P c m
+over_row P (n ∷ ns) h c m = each_more P (code_of n) (row_codes ns) (h 0 (pos 0) (omega arith)) (over_row P ns (λ k d lt. h (suc k) d (omega arith))) c m
+
+-- a number as 32 bits hold it
+pub narrow : (z : ℤ) (c : Code) → FitsSigned w32 z → c ≡ code_of (to_z w32 (of_z w32 z)) → c ≡ code_of z
+narrow z c f e = subst (λ y. c ≡ code_of y) (to_z-of_z w32 z f) e
+
+pub passed : (P : Code → Type 0) (ns : List ℤ) (i : ℕ) (c : Code) → i < length ns → c ≡ code_of (slice_index_or ns i (pos 0)) → ((k : ℕ) (d : ℤ) → k < i → P (code_of (slice_index_or ns k d))) → P c →
+    (k : ℕ) (d : ℤ) → k < i + 1 → P (code_of (slice_index_or ns k d))
+passed P ns i c h is before here k d lt =
+    below_more (λ k. P (code_of (slice_index_or ns k d))) i (λ k lt. before k d lt)
+    (subst (λ n. P (code_of n)) (get_or_default ns i (pos 0) d h) (subst P is here)) k lt
+
+pub all_passed : (P : Code → Type 0) (ns : List ℤ) (i : ℕ) → length ns ≤ i → ((k : ℕ) (d : ℤ) → k < i → P (code_of (slice_index_or ns k d))) → (c : Code) → Contains (row_codes ns) c → P c
+all_passed P ns i h before = over_row P ns (λ k d lt. before k d (omega arith))
+
+-- one of some codes
+pub lacks_one : (P : Sets → Code → Type 0) (T : Sets) (ns : List ℤ) (i to : ℕ) (c code : Code) → i < length ns → c ≡ code_of (slice_index_or ns i (pos 0)) → Lacks T (λ R. P R c) to code →
+    Lacks T (λ R. (x : Code) → Contains (row_codes ns) x → P R x) to code
+lacks_one P T ns i to c code h is l =
+    lacks_part T (λ R. P R c) (λ R. (x : Code) → Contains (row_codes ns) x → P R x) to code (λ R within w. w c (subst (λ x. Contains (row_codes ns) x) (sym is) (in_row ns i h))) l
+
+-- the codes of a set
+pub over_place : (P : Sets → Code → Type 0) (T : Sets) (cs : List Code) (from : ℕ) (o : Option Missing) → cs ≡ codes_at T from →
+    MatchOption o ((c : Code) → Contains cs c → P T c) (λ m. Lacks T (λ R. (c : Code) → Contains cs c → P R c) m.to m.code) →
+    MatchOption o ((c : Code) → HasCode T from c → P T c) (λ m. Lacks T (λ R. (c : Code) → HasCode R from c → P R c) m.to m.code)
+over_place P T cs from None e h = λ c x. h c (subst (λ xs. Contains xs c) (sym e) x)
+over_place P T cs from (Some m) e h =
+    lacks_part T (λ R. (c : Code) → Contains cs c → P R c) (λ R. (c : Code) → HasCode R from c → P R c) m.to m.code
+    (λ R within w c x. w c (within from c (subst (λ xs. Contains xs c) e x))) h
 
 -- ---- numbers
 
@@ -76,7 +91,7 @@ none_below P xs h x (k, lt, e) = absurd (omega arith)
 
 -- ---- the first of some, and the others
 
-pub first_of : {X : Type 0} (P : Sets → X → Type 0) (T : Sets) (xs : List X) (x : X) (more : List X) (to : ℕ) (code : ℤ) → xs ≡ x ∷ more → Lacks T (λ R. P R x) to code →
+pub first_of : {X : Type 0} (P : Sets → X → Type 0) (T : Sets) (xs : List X) (x : X) (more : List X) (to : ℕ) (code : Code) → xs ≡ x ∷ more → Lacks T (λ R. P R x) to code →
     Lacks T (λ R. (y : X) → Contains xs y → P R y) to code
 first_of {X = X} P T xs x more to code e l =
     lacks_part T (λ R. P R x) (λ R. (y : X) → Contains xs y → P R y) to code (λ R within w. w x (subst (λ ys. Contains ys x) (sym e) (in_first x more))) l
@@ -92,16 +107,3 @@ rest_of {X = X} P T xs x more o e here l =
 pub nil_below : {X : Type 0} (xs : List X) → length xs < 1 → xs ≡ []
 nil_below [] h = refl
 nil_below (x ∷ xs) h = absurd (omega arith)
-
--- ---- codes as 32 bits hold them
-
-pub narrow_one : (P : Sets → ℤ → Type 0) (T : Sets) (xs : List ℤ) (i to : ℕ) (code : ℤ) → i < length xs → FitsSigned w32 (slice_index_or xs i (pos 0)) →
-    Lacks T (λ R. P R (to_z w32 (of_z w32 (slice_index_or xs i (pos 0))))) to code → Lacks T (λ R. (c : ℤ) → Contains xs c → P R c) to code
-narrow_one P T xs i to code h f l = lacks_one P T xs i to code h (subst (λ z. Lacks T (λ R. P R z) to code) (to_z-of_z w32 (slice_index_or xs i (pos 0)) f) l)
-
-pub narrow_passed : (P : ℤ → Type 0) (xs : List ℤ) (i : ℕ) → i < length xs → FitsSigned w32 (slice_index_or xs i (pos 0)) → ((k : ℕ) (d : ℤ) → k < i → P (slice_index_or xs k d)) → P (to_z w32 (of_z w32 (slice_index_or xs i (pos 0)))) →
-    (k : ℕ) (d : ℤ) → k < i + 1 → P (slice_index_or xs k d)
-narrow_passed P xs i h f before here = passed P xs i h before (subst P (to_z-of_z w32 (slice_index_or xs i (pos 0)) f) here)
-
-pub narrow_lack : (P : Sets → ℤ → Type 0) (T : Sets) (z : ℤ) (to : ℕ) (code : ℤ) → FitsSigned w32 z → Lacks T (λ R. P R (to_z w32 (of_z w32 z))) to code → Lacks T (λ R. P R z) to code
-narrow_lack P T z to code f l = subst (λ y. Lacks T (λ R. P R y) to code) (to_z-of_z w32 z f) l

@@ -4,10 +4,8 @@ pub mod Found
 pub mod Members
 pub mod Peeled
 pub mod Spliced
-pub mod Terms
 pub mod Worked
 pub mod Keyed
-pub mod Opened
 pub mod Coded
 pub mod Lacked
 pub mod Called
@@ -17,4 +15,6 @@ pub mod Closing
 pub mod Inserted
 pub mod Grown
 pub mod Planning
+pub mod Refining
 pub mod Losing
+pub mod PathLemmas

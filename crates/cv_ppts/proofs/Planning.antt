@@ -1,6 +1,6 @@
 -- The rules and targets of all statements are those of each.
-use Rattle.std.proofs.Common.{ℕ, ℤ, zero, suc, ◌≡◌, ◌<◌, ◌+◌, ◌^◌, Bool, true, false, List, [], ◌∷◌, Option, Some, None, ap, subst, sym, ◌∙◌, arith, map, take, slice_get, slice_index_or, if◌then◌else◌}
-use Rattle.std.specs.List.{All, count_by}
+use Rattle.std.proofs.Common.{ℕ, zero, suc, ◌≡◌, ◌+◌, Bool, true, false, List, [], ◌∷◌, Option, Some, None, ap, subst, sym, ◌∙◌, arith, map, take, slice_get, slice_index_or, if◌then◌else◌}
+use Rattle.std.specs.List.{count_by}
 use Rattle.std.proofs.lemmas.List.Sums.{sum_by-cons}
 use Rattle.cv_core.specs.Names.{stmts_of}
 use Rattle.cv_core.specs.declared.program.Program.{Program}
@@ -9,6 +9,7 @@ use Rattle.cv_ppts.specs.Lacking.{Lacks}
 use Rattle.cv_ppts.specs.Plain.{MaybeHolds, Sets, plain_rule}
 use Rattle.cv_ppts.specs.Planned.{IsPlan, later_targets}
 use Rattle.cv_ppts.specs.Setting.{Setting, allocates, new_target}
+use Rattle.cv_ppts.specs.declared.code.Code.{Code}
 use Rattle.cv_ppts.specs.declared.sets.Rule.{Rule}
 
 mapped_at : (F : Stmt → Option Rule) (xs : List Stmt) (k : ℕ) (x : Stmt) → slice_get xs k ≡ Some x → slice_index_or (map F xs) k None ≡ F x
@@ -28,11 +29,6 @@ later_at P t (y ∷ ys) (suc k) x e =
     ∙ one_more (allocates P y.form) t (count_by (λ (z : Stmt). allocates P z.form) (take k ys))
     ∙ ap (λ n. t + n) (sym (sum_by-cons (λ (z : Stmt). if allocates P z.form then 1 else 0) y (take k ys)))
 
-all_small : (ts : List ℕ) → All (λ t. t < 2 ^ 66) ts → (k : ℕ) → slice_index_or ts k 0 < 2 ^ 66
-all_small [] h k = omega arith
-all_small (t ∷ ts) h zero = h 0 0 (omega arith)
-all_small (t ∷ ts) h (suc k) = all_small ts (λ j d lt. h (suc j) d (omega arith)) k
-
 target_at : (s : Setting) (targets : List ℕ) (k : ℕ) (x : Stmt) → targets ≡ later_targets s.program (new_target s 0) (stmts_of s.proc.body) → slice_get (stmts_of s.proc.body) k ≡ Some x →
     slice_index_or targets k 0 ≡ new_target s k
 target_at s targets k x e f =
@@ -40,12 +36,11 @@ target_at s targets k x e f =
     ap (λ ts. slice_index_or ts k 0) e ∙ here ∙ omega arith
 
 pub plan_is : (s : Setting) (rules : List (Option Rule)) (targets : List ℕ) → rules ≡ map (λ (x : Stmt). plain_rule s x.form) (stmts_of s.proc.body) →
-    targets ≡ later_targets s.program (new_target s 0) (stmts_of s.proc.body) → All (λ t. t < 2 ^ 66) targets → IsPlan s rules targets
-plan_is s rules targets e f small = record {
+    targets ≡ later_targets s.program (new_target s 0) (stmts_of s.proc.body) → IsPlan s rules targets
+plan_is s rules targets e f = record {
   rule = λ k x g. ap (λ rs. slice_index_or rs k None) e ∙ mapped_at (λ (y : Stmt). plain_rule s y.form) (stmts_of s.proc.body) k x g;
   target = λ k x g. target_at s targets k x f g;
-  small = all_small targets small;
 }
 
-pub rule_as : (s : Setting) (T : Sets) (rule other : Option Rule) (to : ℕ) (code : ℤ) → rule ≡ other → Lacks T (λ R. MaybeHolds s R rule) to code → Lacks T (λ R. MaybeHolds s R other) to code
+pub rule_as : (s : Setting) (T : Sets) (rule other : Option Rule) (to : ℕ) (code : Code) → rule ≡ other → Lacks T (λ R. MaybeHolds s R rule) to code → Lacks T (λ R. MaybeHolds s R other) to code
 rule_as s T rule other to code e l = subst (λ r. Lacks T (λ R. MaybeHolds s R r) to code) e l

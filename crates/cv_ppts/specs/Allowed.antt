@@ -1,23 +1,24 @@
--- What the codes of an alias case say of a procedure's contract at entry.
-use Rattle.std.specs.Prelude.{Bool, List, None, Option, Some, drop, false, if◌then◌else◌, length, nat_eq, not, slice_get, slice_index_or, suc, take, true, zero, ℕ, ◌&&◌, ◌+◌, ◌||◌, position}
+-- What the codes of an alias case say of a procedure's contract at entry, also while only the first entities have codes.
+use Rattle.std.specs.Prelude.{Bool, List, None, Option, Some, drop, false, if◌then◌else◌, length, nat_eq, nat_lt, not, slice_get, slice_index_or, suc, take, true, zero, ℕ, ◌&&◌, ◌+◌, position}
 use Rattle.std.specs.List.{count_by, list_any}
 use Rattle.std.specs.Option.{option_and_then, option_map}
 use Rattle.cv_core.specs.Names.{Name, place_of}
 use Rattle.cv_core.specs.declared.program.Atom.{Atom}
 use Rattle.cv_core.specs.declared.program.Item.{Item}
-use Rattle.cv_core.specs.declared.program.LinPart.{LinPart}
 use Rattle.cv_core.specs.declared.program.Proc.{Proc}
 use Rattle.cv_core.specs.declared.program.Program.{Program}
-use Rattle.cv_core.specs.declared.program.PtrTerm.{PtrTerm, Row_of-PtrTerm, end_of-PtrTerm, more_of-PtrTerm}
-use Rattle.cv_core.specs.declared.program.Term.{Row_of-Term, Term, end_of-Term, more_of-Term}
 use Rattle.cv_points.specs.Holders.{or_else, pointer_formals}
 use Rattle.cv_ppts.specs.Entities.{class_at, global_number, is_member, same_class}
+use Rattle.cv_ppts.specs.Numbers.{entity_code}
+use Rattle.cv_ppts.specs.Paths.{Named, Path, Starred, path_of}
+use Rattle.cv_ppts.specs.Status.{Codes, is_false, status_of}
+use Rattle.cv_ppts.specs.declared.code.Code.{Code}
 use Rattle.cv_ppts.specs.declared.entities.Block.{Block}
-use Rattle.cv_core.specs.declared.program.Atom.TheVariants as atom
+use Rattle.cv_ppts.specs.declared.status.Status.{Status}
 use Rattle.cv_core.specs.declared.program.Item.TheVariants as item
-use Rattle.cv_core.specs.declared.program.PtrTerm.TheVariants as pointer
-use Rattle.cv_core.specs.declared.program.Term.TheVariants as term
+use Rattle.cv_ppts.specs.declared.code.Code.TheVariants as code
 use Rattle.cv_ppts.specs.declared.entities.Class.TheVariants as class
+use Rattle.cv_ppts.specs.declared.status.Status.TheVariants as status
 
 -- a case as a contract at entry sees it
 pub record Scene : Type 0 where
@@ -28,11 +29,12 @@ pub record Scene : Type 0 where
   -- how many entities are no contents
   pub named : ℕ
   pub blocks : List Block
-  -- the codes of all entities
+  -- the codes of all entities, or of the first of them
   pub codes : List ℕ
 
 -- ---- the codes of names and contents
 
+-- the number at a place; 0 where there is none
 abbrev pub code_at : List ℕ → Option ℕ → ℕ
 code_at codes None = 0
 code_at codes (Some k) = slice_index_or codes k 0
@@ -41,123 +43,103 @@ abbrev pub number_among : List ℕ → Option ℕ → Option ℕ
 number_among ns None = None
 number_among ns (Some n) = position (λ m. nat_eq m n) ns
 
+-- unknown, where the entity has no code yet
+abbrev pub code_or_unknown : Option ℕ → Code
+code_or_unknown None = code.Unknown
+code_or_unknown (Some n) = entity_code n
+
+-- the code of the entity with a number; null, where there is no entity
+abbrev pub code_of_entity : List ℕ → Option ℕ → Code
+code_of_entity codes None = code.Null
+code_of_entity codes (Some k) = code_or_unknown (slice_get codes k)
+
 -- the number of the entity that has a name: a pointer formal, else a listed global
 abbrev pub entity_number : Scene → Name → Option ℕ
 entity_number s x =
     or_else (place_of (λ y. y.name) x (pointer_formals s.proc))
     (option_map (λ k. length (pointer_formals s.proc) + k) (number_among s.listed (global_number s.program x)))
 
--- 0 for a name that no entity has
-abbrev pub code_of_name : Scene → Name → ℕ
-code_of_name s x = code_at s.codes (entity_number s x)
+abbrev pub code_of_name : Scene → Name → Code
+code_of_name s x = code_of_entity s.codes (entity_number s x)
 
 abbrev pub is_cell_block : Block → Bool
 is_cell_block b = same_class b.class class.PointerCell
 
--- the code of what the block with a code holds
-abbrev pub code_of_content : Scene → ℕ → ℕ
-code_of_content s zero = 0
-code_of_content s (suc b) = slice_index_or s.codes (s.named + count_by is_cell_block (take b s.blocks)) 0
+-- the number of the entity that is what the block with a code holds
+abbrev pub content_number : Scene → ℕ → ℕ
+content_number s b = s.named + count_by is_cell_block (take b s.blocks)
+
+-- the code of what the block with a code holds; unknown, where there is no such block yet
+abbrev pub code_of_content : Scene → Code → Code
+code_of_content s code.Unknown = code.Unknown
+code_of_content s (code.Target (suc b)) =
+    if nat_lt b (length s.blocks) then code_of_entity s.codes (Some (content_number s b)) else code.Unknown
+code_of_content s k = code.Null
 
 abbrev pub is_pointer_global : Scene → Name → Bool
 is_pointer_global s x = same_class (class_at (option_and_then (slice_get s.program.globals) (global_number s.program x))) class.PointerCell
 
-abbrev pub named_code : Scene → Name → ℕ
+abbrev pub named_code : Scene → Name → Code
 named_code s x = if is_pointer_global s x then code_of_content s (code_of_name s x) else code_of_name s x
 
 -- `*w` is undefined where w is null
-abbrev pub starred_code : Scene → Name → Option ℕ
-starred_code s w = if nat_eq (code_of_name s w) 0 then None else Some (code_of_content s (code_of_name s w))
+abbrev pub starred_code : Scene → Code → Option Code
+starred_code s code.Null = None
+starred_code s k = Some (code_of_content s k)
 
--- the code of a pointer at entry, None where it is undefined
-abbrev mutual
-  pub pointer_code : Scene → PtrTerm → Option ℕ
-  pointer_code s (pointer.Name x) = Some (named_code s x)
-  pointer_code s (pointer.Star w) = starred_code s w
-  pointer_code s pointer.Answer = None
-  pointer_code s (pointer.Pre' shape row) = pointer_code_before s row
+-- the code of a pointer at entry
+abbrev pub pointer_code : Scene → Path → Option Code
+pointer_code s (Named x) = Some (named_code s x)
+pointer_code s (Starred w) = starred_code s (code_of_name s w)
+pointer_code s p = None
 
-  pub pointer_code_before : Scene → {n : _} → Row_of-PtrTerm n → Option ℕ
-  pointer_code_before s end_of-PtrTerm = None
-  pointer_code_before s (more_of-PtrTerm t rest) = pointer_code s t
+-- `*i` is defined where i isn't null
+abbrev pub defined_by : Code → Status
+defined_by code.Unknown = status.Unknown
+defined_by code.Null = status.False
+defined_by k = status.Known
 
--- ---- false by the codes
+abbrev pub number_status : Scene → Path → Status
+number_status s (Starred i) = defined_by (code_of_name s i)
+number_status s p = status.Known
 
--- an object is needed and there is none
-abbrev pub lacks_object : Option ℕ → Bool
-lacks_object None = true
-lacks_object (Some n) = nat_eq n 0
-
-abbrev pub is_wrong_null : Bool → Option ℕ → Bool
-is_wrong_null equal None = true
-is_wrong_null true (Some n) = not (nat_eq n 0)
-is_wrong_null false (Some n) = nat_eq n 0
-
-abbrev pub is_not_apart : Option ℕ → Option ℕ → Bool
-is_not_apart None l = true
-is_not_apart (Some m) None = true
-is_not_apart (Some m) (Some n) = nat_eq m n && not (nat_eq m 0)
-
-abbrev pub is_other_base : Option ℕ → Option ℕ → Bool
-is_other_base None l = true
-is_other_base (Some m) None = true
-is_other_base (Some m) (Some n) = nat_eq m 0 || nat_eq n 0 || not (nat_eq m n)
-
-abbrev pub is_undefined : Option ℕ → Bool
-is_undefined None = true
-is_undefined (Some n) = false
-
-abbrev mutual
-  pub is_false_term : Scene → Term → Bool
-  is_false_term s (term.Name x) = false
-  is_false_term s (term.Star i) = nat_eq (code_of_name s i) 0
-  is_false_term s term.Answer = false
-  is_false_term s (term.Pre' shape row) = is_false_before s row
-  is_false_term s (term.Alloc p) = lacks_object (pointer_code s p)
-  is_false_term s (term.Offset p) = lacks_object (pointer_code s p)
-  is_false_term s (term.Strlen p) = lacks_object (pointer_code s p)
-
-  pub is_false_before : Scene → {n : _} → Row_of-Term n → Bool
-  is_false_before s end_of-Term = false
-  is_false_before s (more_of-Term t rest) = is_false_term s t
-
-abbrev pub is_false_maybe : Scene → Option Term → Bool
-is_false_maybe s None = false
-is_false_maybe s (Some t) = is_false_term s t
-
-abbrev pub is_false_part : Scene → LinPart → Bool
-is_false_part s p = is_false_maybe s p.term
+-- the codes under which the contract is read at entry
+abbrev pub codes_at_entry : Scene → Codes
+codes_at_entry s = record {
+  code = λ before x. pointer_code s x;
+  number = number_status s;
+  dies = λ k. false;
+  is_made = λ k. false;
+}
 
 abbrev pub is_false_atom : Scene → Atom → Bool
-is_false_atom s (atom.Null p equal) = is_wrong_null equal (pointer_code s p)
-is_false_atom s (atom.Nullt p) = lacks_object (pointer_code s p)
-is_false_atom s (atom.Clear p) = lacks_object (pointer_code s p)
-is_false_atom s (atom.Fresh p) = is_undefined (pointer_code s p)
-is_false_atom s (atom.Apart p q) = is_not_apart (pointer_code s p) (pointer_code s q)
-is_false_atom s (atom.SameBase p q) = is_other_base (pointer_code s p) (pointer_code s q)
-is_false_atom s (atom.Compare left r right) = list_any (is_false_part s) left || list_any (is_false_part s) right
+is_false_atom s a = is_false (status_of (codes_at_entry s) false a)
 
 -- ---- literals that would be modified
 
-abbrev pub code_or_none : Option ℕ → ℕ
-code_or_none None = 0
-code_or_none (Some n) = n
+-- the code of the pointer to the object that a modifies item names
+abbrev pub item_code : Scene → Item → Option Code
+item_code s (item.Body p) = pointer_code s (path_of p)
+item_code s (item.Star w) = Some (code_of_name s w)
+item_code s (item.Name x) = Some (code_of_name s x)
 
--- the block with the object that a modifies item names; 0 where it names nothing
-abbrev pub item_code : Scene → Item → ℕ
-item_code s (item.Body p) = code_or_none (pointer_code s p)
-item_code s (item.Star w) = code_of_name s w
-item_code s (item.Name x) = code_of_name s x
+abbrev pub is_among : List ℕ → Option Code → Bool
+is_among blocks (Some (code.Target b)) = is_member b blocks
+is_among blocks k = false
+
+abbrev pub is_changed_literal : Scene → List ℕ → Item → Bool
+is_changed_literal s literals i = is_among literals (item_code s i)
 
 -- the codes of the entities that are no contents; those of literals stand last
 abbrev pub named_codes : Scene → List ℕ
 named_codes s = take s.named s.codes
 
-abbrev pub is_changed_literal : Scene → List ℕ → Item → Bool
-is_changed_literal s literals i = is_member (item_code s i) literals
+abbrev pub literal_codes : Scene → List ℕ
+literal_codes s = drop (length (pointer_formals s.proc) + length s.listed) (named_codes s)
 
--- no atom of requires is false, and no block holds a literal and the object of a modifies item
+-- no atom of requires is false, and no block holds a literal and the object of a modifies item, as far as the codes that
+-- there are tell
 abbrev pub is_allowed : Scene → Bool
 is_allowed s =
     not (list_any (is_false_atom s) s.proc.contract.needs)
-    && not (list_any (is_changed_literal s (drop (length (pointer_formals s.proc) + length s.listed) (named_codes s))) s.proc.contract.changes)
+    && not (list_any (is_changed_literal s (literal_codes s)) s.proc.contract.changes)

@@ -1,35 +1,36 @@
 -- The choices of codes at a call, and what a contract's names stand for under one.
-use Rattle.std.specs.Prelude.{Bool, Contains, List, None, Option, Some, [], drop, false, filter, if◌then◌else◌, length, nat_eq, nat_le, nat_lt, negsuc, not, pos, slice_get, slice_index_or, suc, take, true, zero, ℕ, ℤ, ◌&&◌, ◌-◌, ◌||◌, ◌∷◌, ◌≡◌}
+use Rattle.std.specs.Prelude.{Bool, Contains, List, None, Option, Some, [], drop, false, filter, if◌then◌else◌, is_some, length, nat_eq, nat_le, nat_lt, not, slice_get, slice_index_or, suc, take, true, ℕ, ◌&&◌, ◌-◌, ◌||◌, ◌∷◌, ◌≡◌}
 use Rattle.std.specs.List.{list_any}
 use Rattle.cv_core.specs.Names.{Name, is_pointer_kind, place_of}
 use Rattle.cv_core.specs.declared.program.AnyOperand.{AnyOperand}
 use Rattle.cv_core.specs.declared.program.Formal.{Formal}
 use Rattle.cv_core.specs.declared.program.Item.{Item}
 use Rattle.cv_core.specs.declared.program.Proc.{Proc}
-use Rattle.cv_core.specs.declared.program.PtrTerm.{PtrTerm, Row_of-PtrTerm, end_of-PtrTerm, more_of-PtrTerm}
 use Rattle.cv_core.specs.declared.program.VarKind.{VarKind}
 use Rattle.cv_points.specs.Holders.{variable_number}
 use Rattle.cv_ppts.specs.Entities.{class_at, global_number, is_member, same_class}
+use Rattle.cv_ppts.specs.Numbers.{entity_code}
+use Rattle.cv_ppts.specs.Paths.{Named, Path, Starred, path_of}
 use Rattle.cv_ppts.specs.Plain.{Sets, codes_at}
 use Rattle.cv_ppts.specs.Setting.{Setting, block_count, cell_blocks, content_place, first_content, global_code, literal_codes}
+use Rattle.cv_ppts.specs.declared.code.Code.{Code}
 use Rattle.cv_core.specs.declared.program.AnyOperand.TheVariants as any
 use Rattle.cv_core.specs.declared.program.Item.TheVariants as item
 use Rattle.cv_core.specs.declared.program.Operand.TheVariants as operand
-use Rattle.cv_core.specs.declared.program.PtrTerm.TheVariants as pointer
 use Rattle.cv_core.specs.declared.program.VarKind.TheVariants as kind
+use Rattle.cv_ppts.specs.declared.code.Code.TheVariants as code
 use Rattle.cv_ppts.specs.declared.entities.Class.TheVariants as class
 
 pub record Choice : Type 0 where
   -- the codes of the formals by number
-  pub formal : ℕ → ℤ
+  pub formal : ℕ → Code
   -- the codes of what pointer cells hold, by target
-  pub cell : ℕ → ℤ
+  pub cell : ℕ → Code
 
 -- the target of a code
-abbrev pub object_in : ℤ → Option ℕ
-object_in (pos zero) = None
-object_in (pos (suc t)) = Some (suc t)
-object_in (negsuc n) = None
+abbrev pub target_of : Code → Option ℕ
+target_of (code.Target t) = Some t
+target_of c = None
 
 -- ---- what names stand for, in the contract of g
 
@@ -41,64 +42,52 @@ abbrev pub formal_number : Proc → Name → Option ℕ
 formal_number g x = place_of (λ y. y.name) x g.formals
 
 -- a formal, else the block of a global
-abbrev pub code_from : Setting → Choice → Option ℕ → Option ℕ → ℤ
+abbrev pub code_from : Setting → Choice → Option ℕ → Option ℕ → Code
 code_from s K (Some i) global = K.formal i
-code_from s K None global = pos (global_code s global)
+code_from s K None global = entity_code (global_code s global)
 
-abbrev pub code_of_name : Setting → Proc → Choice → Name → ℤ
+abbrev pub code_of_name : Setting → Proc → Choice → Name → Code
 code_of_name s g K x = code_from s K (formal_number g x) (global_number s.program x)
 
 -- the cell whose content a name is, where it is that of a pointer global
 abbrev pub cell_from : Setting → Option ℕ → Option ℕ → Option ℕ
 cell_from s (Some i) global = None
-cell_from s None global = if is_cell_class global s then object_in (pos (global_code s global)) else None
+cell_from s None global = if is_cell_class global s then target_of (entity_code (global_code s global)) else None
 
 abbrev pub is_content_name : Setting → Option ℕ → Option ℕ → Bool
 is_content_name s (Some i) global = false
 is_content_name s None global = is_cell_class global s
 
 -- the cell whose content a pointer of the contract is
-abbrev mutual
-  pub cell_of : Setting → Proc → Choice → PtrTerm → Option ℕ
-  cell_of s g K (pointer.Name x) = cell_from s (formal_number g x) (global_number s.program x)
-  cell_of s g K (pointer.Star w) = object_in (code_of_name s g K w)
-  cell_of s g K pointer.Answer = None
-  cell_of s g K (pointer.Pre' shape row) = cell_before s g K row
+abbrev pub cell_of : Setting → Proc → Choice → Path → Option ℕ
+cell_of s g K (Named x) = cell_from s (formal_number g x) (global_number s.program x)
+cell_of s g K (Starred w) = target_of (code_of_name s g K w)
+cell_of s g K x = None
 
-  pub cell_before : Setting → Proc → Choice → {n : _} → Row_of-PtrTerm n → Option ℕ
-  cell_before s g K end_of-PtrTerm = None
-  cell_before s g K (more_of-PtrTerm t rest) = cell_of s g K t
-
-abbrev pub held_by : Choice → Option ℕ → Option ℤ
+abbrev pub held_by : Choice → Option ℕ → Option Code
 held_by K None = None
 held_by K (Some t) = Some (K.cell t)
 
-abbrev pub named_code : Setting → Proc → Choice → Name → Option ℤ
+abbrev pub named_code : Setting → Proc → Choice → Name → Option Code
 named_code s g K x =
     if is_content_name s (formal_number g x) (global_number s.program x) then held_by K (cell_from s (formal_number g x) (global_number s.program x))
     else Some (code_of_name s g K x)
 
 -- the code of a pointer before the call; None for a `*w` that is undefined, and for the result
-abbrev mutual
-  pub code_of : Setting → Proc → Choice → PtrTerm → Option ℤ
-  code_of s g K (pointer.Name x) = named_code s g K x
-  code_of s g K (pointer.Star w) = held_by K (object_in (code_of_name s g K w))
-  code_of s g K pointer.Answer = None
-  code_of s g K (pointer.Pre' shape row) = code_before s g K row
+abbrev pub code_before : Setting → Proc → Choice → Path → Option Code
+code_before s g K (Named x) = named_code s g K x
+code_before s g K (Starred w) = held_by K (target_of (code_of_name s g K w))
+code_before s g K x = None
 
-  pub code_before : Setting → Proc → Choice → {n : _} → Row_of-PtrTerm n → Option ℤ
-  code_before s g K end_of-PtrTerm = None
-  code_before s g K (more_of-PtrTerm t rest) = code_of s g K t
-
-abbrev pub object_of : Option ℤ → Option ℕ
+abbrev pub object_of : Option Code → Option ℕ
 object_of None = None
-object_of (Some c) = object_in c
+object_of (Some c) = target_of c
 
 -- the target with the object that a modifies item names
 abbrev pub item_target : Setting → Proc → Choice → Item → Option ℕ
-item_target s g K (item.Body p) = object_of (code_of s g K p)
-item_target s g K (item.Star w) = object_in (code_of_name s g K w)
-item_target s g K (item.Name x) = object_in (code_of_name s g K x)
+item_target s g K (item.Body p) = object_of (code_before s g K (path_of p))
+item_target s g K (item.Star w) = target_of (code_of_name s g K w)
+item_target s g K (item.Name x) = target_of (code_of_name s g K x)
 
 abbrev pub is_target : ℕ → Option ℕ → Bool
 is_target t None = false
@@ -107,6 +96,30 @@ is_target t (Some n) = nat_eq n t
 -- some modifies item names the object of a target
 abbrev pub is_modified : Setting → Proc → Choice → ℕ → Bool
 is_modified s g K t = list_any (λ i. is_target t (item_target s g K i)) g.contract.changes
+
+-- ---- whether a call changes a pointer
+
+abbrev pub is_cell_kind : VarKind → Bool
+is_cell_kind kind.Pptr = true
+is_cell_kind k = false
+
+abbrev pub is_cell_formal : Option Formal → Bool
+is_cell_formal None = false
+is_cell_formal (Some x) = is_cell_kind x.kind
+
+abbrev pub formal_at : Proc → Option ℕ → Option Formal
+formal_at g None = None
+formal_at g (Some i) = slice_get g.formals i
+
+-- an item that can be a pointer cell: `*w` of a `pptr` formal w, or a pointer global
+abbrev pub can_be_cell : Setting → Proc → Item → Bool
+can_be_cell s g (item.Body p) = false
+can_be_cell s g (item.Star w) = is_cell_formal (formal_at g (formal_number g w))
+can_be_cell s g (item.Name x) = is_cell_class (global_number s.program x) s
+
+-- the destination is a pointer, or a modifies item can be a pointer cell
+abbrev pub changes_pointer : Setting → Proc → Option ℕ → Bool
+changes_pointer s g into = is_some into || list_any (can_be_cell s g) g.contract.changes
 
 -- ---- the procedure's own contract at its entry
 
@@ -120,8 +133,8 @@ earlier_cells s t = if nat_le t (block_count s) then cell_blocks s (t - 1) else 
 -- the codes with which the procedure is entered
 abbrev pub entry : Setting → Choice
 entry s = record {
-  formal = λ i. pos (slice_index_or s.codes (earlier_pointers s.proc i) 0);
-  cell = λ t. pos (slice_index_or (drop (first_content s) s.codes) (earlier_cells s t) 0);
+  formal = λ i. entity_code (slice_index_or s.codes (earlier_pointers s.proc i) 0);
+  cell = λ t. entity_code (slice_index_or (drop (first_content s) s.codes) (earlier_cells s t) 0);
 }
 
 -- a local object, what a statement allocates, or a block with the object of a modifies item
@@ -135,30 +148,30 @@ is_refused s (Some t) = is_member t (literal_codes s) || not (is_permitted s t)
 
 -- ---- choices
 
-abbrev pub codes_of_place : Sets → Option ℕ → List ℤ
+abbrev pub codes_of_place : Sets → Option ℕ → List Code
 codes_of_place T None = []
 codes_of_place T (Some h) = codes_at T h
 
-abbrev pub argument_codes : Setting → Sets → Option AnyOperand → List ℤ
+abbrev pub argument_codes : Setting → Sets → Option AnyOperand → List Code
 argument_codes s T None = []
-argument_codes s T (Some any.Null) = pos 0 ∷ []
+argument_codes s T (Some any.Null) = code.Null ∷ []
 argument_codes s T (Some (any.Operand (operand.Var x))) = codes_of_place T (variable_number s.proc x)
 argument_codes s T (Some (any.Operand (operand.Number z))) = []
 
-abbrev pub set_for : Option Formal → List ℤ → Option (List ℤ)
+abbrev pub set_for : Option Formal → List Code → Option (List Code)
 set_for None cs = None
 set_for (Some x) cs = if is_pointer_kind x.kind then Some cs else None
 
 -- the codes that a pointer formal can have
-abbrev pub argument_set : Setting → Sets → Proc → List AnyOperand → ℕ → Option (List ℤ)
+abbrev pub argument_set : Setting → Sets → Proc → List AnyOperand → ℕ → Option (List Code)
 argument_set s T g args i = set_for (slice_get g.formals i) (argument_codes s T (slice_get args i))
 
-abbrev pub starred_cell : VarKind → ℤ → Option ℕ
-starred_cell kind.Pptr c = object_in c
+abbrev pub starred_cell : VarKind → Code → Option ℕ
+starred_cell kind.Pptr c = target_of c
 starred_cell k c = None
 
 -- the cell of a `pptr` formal, from the i-th formal on
-abbrev pub is_starred : (ℕ → ℤ) → ℕ → ℕ → List Formal → Bool
+abbrev pub is_starred : (ℕ → Code) → ℕ → ℕ → List Formal → Bool
 is_starred formal t i [] = false
 is_starred formal t i (x ∷ xs) = is_target t (starred_cell x.kind (formal i)) || is_starred formal t (suc i) xs
 
@@ -166,15 +179,15 @@ abbrev pub listed_cell : Setting → Name → Option ℕ
 listed_cell s x = cell_from s None (global_number s.program x)
 
 -- the cells of the `pptr` formals and of the listed pointer globals
-abbrev pub is_named_cell : Setting → Proc → (ℕ → ℤ) → ℕ → Bool
+abbrev pub is_named_cell : Setting → Proc → (ℕ → Code) → ℕ → Bool
 is_named_cell s g formal t = is_starred formal t 0 g.formals || list_any (λ x. is_target t (listed_cell s x)) g.contract.listed
 
-abbrev pub cell_set : Setting → Sets → Bool → ℕ → Option (List ℤ)
+abbrev pub cell_set : Setting → Sets → Bool → ℕ → Option (List Code)
 cell_set s T named t = if named then Some (codes_of_place T (content_place s t)) else None
 
 -- a code of a set; nothing is known where there is none
-abbrev pub IsPick : Option (List ℤ) → ℤ → Type 0
-IsPick None c = c ≡ negsuc 0
+abbrev pub IsPick : Option (List Code) → Code → Type 0
+IsPick None c = c ≡ code.Unknown
 IsPick (Some cs) c = Contains cs c
 
 -- each pointer formal has a code of its argument, and each cell that is named one of its content
@@ -184,9 +197,9 @@ pub record IsChoice (s : Setting) (T : Sets) (g : Proc) (args : List AnyOperand)
 
 -- ---- choices that fail
 
-abbrev pub is_unknown : ℤ → Bool
-is_unknown (pos n) = false
-is_unknown (negsuc n) = true
+abbrev pub is_unknown : Code → Bool
+is_unknown code.Unknown = true
+is_unknown c = false
 
 abbrev pub is_unknown_cell : Choice → Option ℕ → Bool
 is_unknown_cell K None = false

@@ -1,3 +1,6 @@
+pub mod Paths
+pub mod Status
+pub mod Named
 pub mod Entities
 pub mod Walk
 pub mod Allowed
@@ -5,6 +8,7 @@ pub mod Seen
 pub mod Cases
 pub mod Listed
 pub mod Setting
+pub mod Numbers
 pub mod Plain
 pub mod Choices
 pub mod Outcomes
@@ -14,4 +18,3 @@ pub mod Picked
 pub mod Lacking
 pub mod Growing
 pub mod Planned
-pub mod Lost

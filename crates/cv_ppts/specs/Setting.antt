@@ -153,6 +153,11 @@ new_target s k = block_count s + length (objects_of s.proc) + suc (count_by (λ 
 abbrev pub AreContents : Setting → List (Option ℕ) → Type 0
 AreContents s places = (t : ℕ) → t < length places → slice_index_or places t None ≡ content_place s t
 
+-- there are fewer targets than 31 bits count, even if each statement allocated
+abbrev pub HasRoom : Setting → Type 0
+HasRoom s = block_count s + length (objects_of s.proc) + length (stmts_of s.proc.body) < 2147483647
+
 pub record IsKnown (s : Setting) (count : Option ℕ) (places : List (Option ℕ)) : Type 0 where
+  pub room : HasRoom s
   pub literals : (n : ℕ) → count ≡ Some n → n ≡ length (literals_of s.program s.proc)
   pub contents : AreContents s places

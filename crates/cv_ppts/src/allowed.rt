@@ -1,16 +1,19 @@
 //! Whether the codes of a case go with the procedure's contract.
-ghost use Rattle.std.specs.Prelude.{◌≡◌, ◌+◌, ◌||◌, [], drop, length, map, nat_eq, position, slice_get, slice_index_or, take};
+ghost use Rattle.std.specs.Prelude.{◌≡◌, ◌+◌, Some, drop, length, nat_eq, position, slice_index_or, suc, take};
 ghost use Rattle.std.specs.List.{count_by, filter, list_any};
-ghost use Rattle.std.specs.Option.{option_and_then, option_map};
 ghost use Rattle.cv_core.specs.Names.{is_pointer_kind as pointer_kind, place_of};
-ghost use Rattle.cv_ppts.specs.Allowed.{code_at as code_at_of, code_of_content as code_of_content_in, code_of_name as code_of_name_in, code_or_none as code_or_none_of, entity_number as entity_number_of, is_allowed as is_allowed_in, is_cell_block as is_cell_block_of, is_changed_literal as is_changed_literal_in, is_false_atom as is_false_atom_in, is_false_maybe, is_false_part as is_false_part_in, is_false_term as is_false_term_in, is_not_apart as is_not_apart_of, is_other_base as is_other_base_of, is_pointer_global as is_pointer_global_in, is_undefined as is_undefined_of, is_wrong_null as is_wrong_null_of, item_code as item_code_in, lacks_object as lacks_object_of, named_code as named_code_in, named_codes, number_among as number_among_of, pointer_code as pointer_code_in, starred_code as starred_code_in};
-ghost use Rattle.cv_ppts.specs.Entities.{class_at as class_at_of};
+ghost use Rattle.cv_ppts.specs.Allowed as spec;
+ghost use Rattle.cv_ppts.specs.Named.{seen_path};
 ghost use Rattle.cv_ppts.specs.Seen.{scene};
 
 use crate::blocks::{is_member, same_class};
+use crate::code::Code;
 use crate::entities::{Block, Class};
 use crate::named::{class_named, global_number};
-use cv_core::{Atom, Bytes, Formal, Item, LinPart, Proc, Program, PtrTerm, Term, is_pointer_kind};
+use crate::numbers::entity_code;
+use crate::path::{Path, path_of};
+use crate::status::{ReadCodes, Status, status_of};
+use cv_core::{Atom, Bytes, Formal, Item, Proc, Program, is_pointer_kind};
 
 /// A case as a contract at entry sees it.
 #[derive(Drop)]
@@ -22,7 +25,7 @@ pub(crate) struct View<'a> {
     /// How many entities are no contents.
     pub named: usize,
     pub blocks: &'a [Block],
-    /// The codes of all entities.
+    /// The codes of all entities, or of the first of them.
     pub codes: &'a [u32],
 }
 
@@ -50,7 +53,7 @@ fn place_among(numbers: &[u32], number: usize) -> Option<usize>
 }
 
 pub(crate) fn number_among(numbers: &[u32], number: Option<usize>) -> Option<usize>
-    ensures { result ≡ number_among_of numbers.now number }
+    ensures { result ≡ spec.number_among numbers.now number }
 {
     match number {
         None => None,
@@ -59,7 +62,7 @@ pub(crate) fn number_among(numbers: &[u32], number: Option<usize>) -> Option<usi
 }
 
 pub(crate) fn code_at(codes: &[u32], number: Option<usize>) -> u32
-    ensures { result ≡ code_at_of codes.now number }
+    ensures { result ≡ spec.code_at codes.now number }
 {
     match number {
         None => 0,
@@ -80,23 +83,43 @@ pub(crate) fn code_behind(codes: &[u32], first: usize, number: usize) -> u32
     codes[first + number]
 }
 
-/// The code of the entity that has a name; 0 where none has it.
-pub(crate) fn code_of_name(v: &View, x: &Bytes) -> u32
-    ensures { result ≡ code_of_name_in (scene v.entry.now) x.now }
+/// The code of an entity by its place; unknown where it has none yet.
+fn code_of_entity(codes: &[u32], place: usize) -> Code
+    ensures { result ≡ spec.code_of_entity codes.now (Some place) }
+{
+    match codes.get(place) {
+        None => Code::Unknown,
+        Some(code) => entity_code(*code),
+    }
+}
+
+/// The code of the entity that has so many before a place; unknown where it has none yet.
+fn code_of_entity_behind(codes: &[u32], first: usize, number: usize) -> Code
+    ensures { result ≡ spec.code_of_entity codes.now (Some (first + number)) }
+{
+    if first > codes.len() || number >= codes.len() - first {
+        return Code::Unknown;
+    }
+    entity_code(codes[first + number])
+}
+
+/// The code of the entity that has a name; null where none has it.
+fn code_of_name(v: &View, x: &Bytes) -> Code
+    ensures { result ≡ spec.code_of_name (scene v.entry.now) x.now }
 {
     let formals = v.f.formals.as_slice();
     match formal_number(formals, x.as_slice()) {
-        Some(number) => code_at(v.codes, Some(number)),
+        Some(number) => code_of_entity(v.codes, number),
         None => match number_among(v.listed, global_number(v.p, x)) {
-            None => 0,
-            Some(number) => code_behind(v.codes, formal_count(formals), number),
+            None => Code::Null,
+            Some(number) => code_of_entity_behind(v.codes, formal_count(formals), number),
         },
     }
 }
 
 /// How many of the blocks are of pointer cells.
-pub(crate) fn cell_blocks(blocks: &[Block]) -> usize
-    ensures { result ≡ count_by is_cell_block_of blocks.now }
+fn cell_blocks(blocks: &[Block]) -> usize
+    ensures { result ≡ count_by spec.is_cell_block blocks.now }
 {
     blocks
         .iter()
@@ -104,31 +127,43 @@ pub(crate) fn cell_blocks(blocks: &[Block]) -> usize
         .count()
 }
 
-/// The code of what the block with a code holds.
-fn code_of_content(v: &View, code: u32) -> u32
-    ensures { result ≡ code_of_content_in (scene v.entry.now) code }
+/// The code of what a block by its place holds; unknown where there is no such block yet.
+fn code_of_block_content(v: &View, block: usize) -> Code
+    ensures { result ≡ spec.code_of_content (scene v.entry.now) (Code.Target (suc block)) }
 {
-    if code == 0 {
-        return 0;
+    if block >= v.blocks.len() {
+        return Code::Unknown;
     }
-    let block = (code - 1) as usize;
-    let before = if block < v.blocks.len() {
-        cell_blocks(&v.blocks[..block])
-    } else {
-        cell_blocks(v.blocks)
-    };
-    code_behind(v.codes, v.named, before)
+    code_of_entity_behind(v.codes, v.named, cell_blocks(&v.blocks[..block]))
+}
+
+/// The code of what the block with a code holds.
+fn code_of_content(v: &View, code: Code) -> Code
+    ensures { result ≡ spec.code_of_content (scene v.entry.now) code }
+{
+    match code {
+        Code::Unknown => Code::Unknown,
+        Code::Null => Code::Null,
+        Code::Target(block) => {
+            if block == 0 {
+                Code::Null
+            } else {
+                code_of_block_content(v, (block - 1) as usize)
+            }
+        }
+        Code::New => Code::Null,
+    }
 }
 
 /// Whether a name is that of a global that is a pointer cell.
-pub(crate) fn is_pointer_global(v: &View, x: &Bytes) -> bool
-    ensures { result ≡ is_pointer_global_in (scene v.entry.now) x.now }
+fn is_pointer_global(v: &View, x: &Bytes) -> bool
+    ensures { result ≡ spec.is_pointer_global (scene v.entry.now) x.now }
 {
     same_class(class_named(v.p, x), Class::PointerCell)
 }
 
-fn named_code(v: &View, x: &Bytes) -> u32
-    ensures { result ≡ named_code_in (scene v.entry.now) x.now }
+fn named_code(v: &View, x: &Bytes) -> Code
+    ensures { result ≡ spec.named_code (scene v.entry.now) x.now }
 {
     let code = code_of_name(v, x);
     if is_pointer_global(v, x) {
@@ -138,126 +173,85 @@ fn named_code(v: &View, x: &Bytes) -> u32
     }
 }
 
-fn starred_code(v: &View, w: &Bytes) -> Option<u32>
-    ensures { option_map (λ n. n) result ≡ starred_code_in (scene v.entry.now) w.now }
-{
-    let code = code_of_name(v, w);
-    if code == 0 {
-        None
-    } else {
-        Some(code_of_content(v, code))
-    }
-}
-
-/// The code of a pointer at entry, None where it is undefined.
-pub(crate) fn pointer_code(v: &View, t: &PtrTerm) -> Option<u32>
-    ensures { result ≡ pointer_code_in (scene v.entry.now) t.now }
-{
-    match t {
-        PtrTerm::Name(x) => Some(named_code(v, x)),
-        PtrTerm::Star(w) => starred_code(v, w),
-        PtrTerm::Answer => None,
-        PtrTerm::Pre(inner) => pointer_code(v, inner.get()),
-    }
-}
-
-pub(crate) fn lacks_object(code: Option<u32>) -> bool
-    ensures { result ≡ lacks_object_of code }
+fn starred_code(v: &View, code: Code) -> Option<Code>
+    ensures { result ≡ spec.starred_code (scene v.entry.now) code }
 {
     match code {
-        None => true,
-        Some(code) => code == 0,
+        Code::Unknown => Some(code_of_content(v, code)),
+        Code::Null => None,
+        Code::Target(_) => Some(code_of_content(v, code)),
+        Code::New => Some(code_of_content(v, code)),
     }
 }
 
-pub(crate) fn is_wrong_null(equal: bool, code: Option<u32>) -> bool
-    ensures { result ≡ is_wrong_null_of equal code }
+/// The code of a pointer at entry; None where it is undefined.
+fn pointer_code(v: &View, path: Path) -> Option<Code>
+    ensures { result ≡ spec.pointer_code (scene v.entry.now) (seen_path path.entry) }
+{
+    match path {
+        Path::Named(x) => Some(named_code(v, x)),
+        Path::Starred(w) => starred_code(v, code_of_name(v, w)),
+        Path::Answered => None,
+    }
+}
+
+fn defined_by(code: Code) -> Status
+    ensures { result ≡ spec.defined_by code }
 {
     match code {
-        None => true,
-        Some(code) => {
-            let is_null = code == 0;
-            if equal { !is_null } else { is_null }
-        }
+        Code::Unknown => Status::Unknown,
+        Code::Null => Status::False,
+        Code::Target(_) => Status::Known,
+        Code::New => Status::Known,
     }
 }
 
-pub(crate) fn is_not_apart(one: Option<u32>, other: Option<u32>) -> bool
-    ensures { result ≡ is_not_apart_of one other }
+fn number_status(v: &View, path: Path) -> Status
+    ensures { result ≡ spec.number_status (scene v.entry.now) (seen_path path.entry) }
 {
-    match (one, other) {
-        (Some(m), Some(n)) => m == n && m != 0,
-        _ => true,
+    match path {
+        Path::Named(_) => Status::Known,
+        Path::Starred(i) => defined_by(code_of_name(v, i)),
+        Path::Answered => Status::Known,
     }
 }
 
-pub(crate) fn is_other_base(one: Option<u32>, other: Option<u32>) -> bool
-    ensures { result ≡ is_other_base_of one other }
-{
-    match (one, other) {
-        (Some(m), Some(n)) => m == 0 || n == 0 || m != n,
-        _ => true,
-    }
-}
+impl<'a> ReadCodes for View<'a> {
+    ghost use Rattle.cv_ppts.specs.Allowed.{codes_at_entry};
+    ghost use Rattle.cv_ppts.specs.Seen.{scene};
 
-/// Whether a term is undefined by the codes.
-pub(crate) fn is_false_term(v: &View, t: &Term) -> bool
-    ensures { result ≡ is_false_term_in (scene v.entry.now) t.now }
-{
-    match t {
-        Term::Name(_) => false,
-        Term::Star(i) => code_of_name(v, i) == 0,
-        Term::Answer => false,
-        Term::Pre(inner) => is_false_term(v, inner.get()),
-        Term::Alloc(p) => lacks_object(pointer_code(v, p)),
-        Term::Offset(p) => lacks_object(pointer_code(v, p)),
-        Term::Strlen(p) => lacks_object(pointer_code(v, p)),
-    }
-}
+    ghost codes = { λ v. codes_at_entry (scene v) };
 
-fn is_false_part(v: &View, part: &LinPart) -> bool
-    ensures { result ≡ is_false_part_in (scene v.entry.now) part.now }
-{
-    match &part.term {
-        None => false,
-        Some(t) => is_false_term(v, t),
+    fn code(&self, _before: bool, path: Path) -> Option<Code> {
+        pointer_code(self, path)
     }
-}
 
-fn has_false_part(v: &View, parts: &[LinPart]) -> bool
-    ensures { result ≡ list_any (is_false_part_in (scene v.entry.now)) parts.now }
-{
-    let mut rest = parts;
-    while let [part, tail @ ..] = rest {
-        if is_false_part(v, part) {
-            return true;
-        }
-        rest = tail;
+    fn number(&self, path: Path) -> Status {
+        number_status(self, path)
     }
-    false
+
+    fn dies(&self, _code: Code) -> bool {
+        false
+    }
+
+    fn is_made(&self, _code: Code) -> bool {
+        false
+    }
 }
 
 /// Whether an atom is false by the codes.
 fn is_false_atom(v: &View, a: &Atom) -> bool
-    ensures { result ≡ is_false_atom_in (scene v.entry.now) a.now }
+    ensures { result ≡ spec.is_false_atom (scene v.entry.now) a.now }
 {
-    match a {
-        Atom::Null { ptr, equal } => is_wrong_null(*equal, pointer_code(v, ptr)),
-        Atom::Nullt(p) => lacks_object(pointer_code(v, p)),
-        Atom::Clear(p) => lacks_object(pointer_code(v, p)),
-        Atom::Fresh(p) => pointer_code(v, p).is_none(),
-        Atom::Apart(p, q) => is_not_apart(pointer_code(v, p), pointer_code(v, q)),
-        Atom::SameBase(p, q) => is_other_base(pointer_code(v, p), pointer_code(v, q)),
-        Atom::Compare { left, right, .. } => {
-            let first = has_false_part(v, left.as_slice());
-            let second = has_false_part(v, right.as_slice());
-            first || second
-        }
+    match status_of(v, false, a) {
+        Status::False => true,
+        Status::Unknown => false,
+        Status::Known => false,
     }
 }
 
 fn has_false_atom(v: &View, atoms: &[Atom]) -> bool
-    ensures { result ≡ list_any (is_false_atom_in (scene v.entry.now)) atoms.now }
+    ensures { result ≡ list_any (spec.is_false_atom (scene v.entry.now)) atoms.now }
 {
     let mut rest = atoms;
     while let [atom, tail @ ..] = rest {
@@ -269,26 +263,35 @@ fn has_false_atom(v: &View, atoms: &[Atom]) -> bool
     false
 }
 
-/// The block with the object that a modifies item names; 0 where it names nothing.
-fn item_code(v: &View, item: &Item) -> u32
-    ensures { result ≡ item_code_in (scene v.entry.now) item.now }
+/// The code of the pointer to the object that a modifies item names.
+fn item_code(v: &View, item: &Item) -> Option<Code>
+    ensures { result ≡ spec.item_code (scene v.entry.now) item.now }
 {
     match item {
-        Item::Body(p) => pointer_code(v, p).unwrap_or(0),
-        Item::Star(w) => code_of_name(v, w),
-        Item::Name(x) => code_of_name(v, x),
+        Item::Body(p) => pointer_code(v, path_of(p)),
+        Item::Star(w) => Some(code_of_name(v, w)),
+        Item::Name(x) => Some(code_of_name(v, x)),
+    }
+}
+
+fn is_among(blocks: &[u32], code: Option<Code>) -> bool
+    ensures { result ≡ spec.is_among blocks.now code }
+{
+    match code {
+        Some(Code::Target(block)) => is_member(block, blocks),
+        _ => false,
     }
 }
 
 /// Whether an item names the object of a literal.
-pub(crate) fn is_changed_literal(v: &View, literals: &[u32], item: &Item) -> bool
-    ensures { result ≡ is_changed_literal_in (scene v.entry.now) literals.now item.now }
+fn is_changed_literal(v: &View, literals: &[u32], item: &Item) -> bool
+    ensures { result ≡ spec.is_changed_literal (scene v.entry.now) literals.now item.now }
 {
-    is_member(item_code(v, item), literals)
+    is_among(literals, item_code(v, item))
 }
 
 fn has_changed_literal(v: &View, literals: &[u32], items: &[Item]) -> bool
-    ensures { result ≡ list_any (is_changed_literal_in (scene v.entry.now) literals.now) items.now }
+    ensures { result ≡ list_any (spec.is_changed_literal (scene v.entry.now) literals.now) items.now }
 {
     let mut rest = items;
     while let [item, tail @ ..] = rest {
@@ -333,9 +336,10 @@ pub(crate) fn literal_codes<'a>(v: &View<'a>) -> &'a [u32]
     behind(others, v.listed.len())
 }
 
-/// Whether no atom of requires is false, and no block holds a literal and the object of a modifies item.
+/// Whether no atom of requires is false, and no block holds a literal and the object of a modifies item, as far as the
+/// codes that there are tell.
 pub(crate) fn is_allowed(v: &View) -> bool
-    ensures { result ≡ is_allowed_in (scene v.entry.now) }
+    ensures { result ≡ spec.is_allowed (scene v.entry.now) }
 {
     let is_false = has_false_atom(v, v.f.contract.needs.as_slice());
     let is_changed = has_changed_literal(v, literal_codes(v), v.f.contract.changes.as_slice());

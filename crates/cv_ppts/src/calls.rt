@@ -1,21 +1,26 @@
 //! What calls ask of the sets of codes and the sets lack.
-ghost use Rattle.std.specs.Prelude.{◌≡◌, [], ◌&&◌, ◌+◌, ◌<◌, ◌≤◌, ◌^◌, Contains, List as Items, MatchBool, MatchOption, Some, length, not, option_copied, pos};
+ghost use Rattle.std.specs.Prelude.{◌≡◌, [], ◌&&◌, ◌+◌, ◌<◌, ◌≤◌, Contains, List as Items, MatchBool, MatchOption, Some, length, not, option_copied};
 ghost use Rattle.cv_core.specs.declared.program.Item.{Item as ItemValue};
 ghost use Rattle.cv_core.specs.declared.program.Atom.{Atom as AtomValue};
 ghost use Rattle.cv_ppts.specs.Choices.{argument_codes as argument_codes_in, codes_of_place, item_target as item_target_in, starred_cell as starred_cell_of};
 ghost use Rattle.cv_ppts.specs.Keys.{setting};
 ghost use Rattle.cv_ppts.specs.Lacking.{CellsAhead, CellsOver, FormalsAhead, FormalsOver, Lacks, listed_ahead, new_cell as new_cell_in, starred_ahead};
+ghost use Rattle.cv_ppts.specs.Numbers.{codes_of, row_codes};
 ghost use Rattle.cv_ppts.specs.Outcomes.{walked};
+ghost use Rattle.cv_ppts.specs.declared.code.Code.{Code as CodeValue};
 ghost use Rattle.cv_ppts.specs.Plain.{HasCode};
 ghost use Rattle.cv_ppts.specs.Picked.{choice_of, gift_at as gift_at_in, pick_at as pick_at_in};
 ghost use Rattle.cv_ppts.specs.Setting.{callee as callee_in, content_place as content_place_of};
 ghost use Rattle.cv_ppts.specs.Targets.{AfterHolds, AlternativeHolds, AreLost, CallHolds, CalleeHolds, CellAsked, ChoiceHolds, GivenHolds, IsAsked, IsLost, MallocHolds, MaybeAsked, alternatives as alternatives_of, assigned as assigned_of, is_new as is_new_code};
 
-use crate::outcomes::{Code, Gifts, gift_at, gift_by, has_false_atom, settled};
+use crate::code::Code;
+use crate::numbers::code_of;
+use crate::outcomes::{Gifts, gift_at, gift_by, has_false_atom, settled};
 use crate::picks::{
-    Codes, Picks, has_pick, is_failing, item_target, listed_cell, pick_at, starred_cell,
+    Codes, Picks, changes_pointer, has_pick, is_failing, item_target, listed_cell, pick_at,
+    starred_cell,
 };
-use crate::places::{as_code, callee, content_place, has_fresh, variable_number};
+use crate::places::{callee, content_place, has_fresh, variable_number};
 use crate::sets::{Missing, has_code, missing_code, set_at};
 use crate::setting::Scope;
 use cv_core::{
@@ -24,27 +29,24 @@ use cv_core::{
 };
 
 /// Whether the set at a place has the code of a target.
-fn has_target(sets: &[List<i32>], place: u128, target: u128) -> bool
-    requires { target < 2 ^ 66 }
-    ensures { MatchBool result (HasCode sets.now place (pos target)) (HasCode sets.now place (pos target) → ⊥) }
+fn has_target(sets: &[List<i32>], place: u128, target: u32) -> bool
+    ensures { MatchBool result (HasCode (codes_of sets.now) place (CodeValue.Target target)) (HasCode (codes_of sets.now) place (CodeValue.Target target) → ⊥) }
 {
-    has_code(sets, place, as_code(target))
+    has_code(sets, place, Code::Target(target))
 }
 
-fn missing_target(sets: &[List<i32>], place: u128, target: u128) -> Option<Missing>
-    requires { target < 2 ^ 66 }
-    ensures { MatchOption result (HasCode sets.now place (pos target)) (λ m. Lacks sets.now (λ R. HasCode R place (pos target)) m.to m.code) }
+fn missing_target(sets: &[List<i32>], place: u128, target: u32) -> Option<Missing>
+    ensures { MatchOption result (HasCode (codes_of sets.now) place (CodeValue.Target target)) (λ m. Lacks (codes_of sets.now) (λ R. HasCode R place (CodeValue.Target target)) m.to m.code) }
 {
-    missing_code(sets, place, as_code(target))
+    missing_code(sets, place, Code::Target(target))
 }
 
 /// A pointer that has the target of a statement that allocates, and not -1.
-fn missing_lost(sets: &[List<i32>], target: u128, place: u128) -> Option<Missing>
-    requires small { target < 2 ^ 66 }
-    ensures { MatchOption result (IsLost sets.now (pos target) place) (λ m. Lacks sets.now (λ R. IsLost R (pos target) place) m.to m.code) }
+fn missing_lost(sets: &[List<i32>], target: u32, place: u128) -> Option<Missing>
+    ensures { MatchOption result (IsLost (codes_of sets.now) target place) (λ m. Lacks (codes_of sets.now) (λ R. IsLost R target place) m.to m.code) }
 {
     if has_target(sets, place, target) {
-        missing_code(sets, place, -1)
+        missing_code(sets, place, Code::Unknown)
     } else {
         None
     }
@@ -61,12 +63,11 @@ fn is_place(into: Option<u128>, place: u128) -> bool
 
 fn missing_lost_but(
     sets: &[List<i32>],
-    target: u128,
+    target: u32,
     into: Option<u128>,
     place: u128,
 ) -> Option<Missing>
-    requires small { target < 2 ^ 66 }
-    ensures { MatchOption result ((into ≡ Some place → ⊥) → IsLost sets.now (pos target) place) (λ m. Lacks sets.now (λ R. (into ≡ Some place → ⊥) → IsLost R (pos target) place) m.to m.code) }
+    ensures { MatchOption result ((into ≡ Some place → ⊥) → IsLost (codes_of sets.now) target place) (λ m. Lacks (codes_of sets.now) (λ R. (into ≡ Some place → ⊥) → IsLost R target place) m.to m.code) }
 {
     if is_place(into, place) {
         None
@@ -76,13 +77,8 @@ fn missing_lost_but(
 }
 
 /// What the pointers other than the destination lack at a statement that allocates.
-pub(crate) fn missing_losses(
-    sets: &[List<i32>],
-    target: u128,
-    into: Option<u128>,
-) -> Option<Missing>
-    requires small { target < 2 ^ 66 }
-    ensures { MatchOption result (AreLost sets.now (pos target) into) (λ m. Lacks sets.now (λ R. AreLost R (pos target) into) m.to m.code) }
+pub(crate) fn missing_losses(sets: &[List<i32>], target: u32, into: Option<u128>) -> Option<Missing>
+    ensures { MatchOption result (AreLost (codes_of sets.now) target into) (λ m. Lacks (codes_of sets.now) (λ R. AreLost R target into) m.to m.code) }
 {
     for place in 0..sets.len() {
         match missing_lost_but(sets, target, into, place as u128) {
@@ -93,13 +89,12 @@ pub(crate) fn missing_losses(
     None
 }
 
-fn missing_malloc(sets: &[List<i32>], target: u128, into: Option<u128>) -> Option<Missing>
-    requires small { target < 2 ^ 66 }
-    ensures { MatchOption result (MallocHolds sets.now (pos target) into) (λ m. Lacks sets.now (λ R. MallocHolds R (pos target) into) m.to m.code) }
+fn missing_malloc(sets: &[List<i32>], target: u32, into: Option<u128>) -> Option<Missing>
+    ensures { MatchOption result (MallocHolds (codes_of sets.now) target into) (λ m. Lacks (codes_of sets.now) (λ R. MallocHolds R target into) m.to m.code) }
 {
     match into {
         None => None,
-        Some(place) => match missing_code(sets, place, 0) {
+        Some(place) => match missing_code(sets, place, Code::Null) {
             None => missing_target(sets, place, target),
             Some(missing) => Some(missing),
         },
@@ -108,13 +103,20 @@ fn missing_malloc(sets: &[List<i32>], target: u128, into: Option<u128>) -> Optio
 
 // ---- what an alternative gives
 
-fn assigned(target: u128, fresh: bool, code: Code) -> i128
-    requires small { target < 2 ^ 66 }
-    ensures { result ≡ assigned_of (pos target) fresh code }
+fn assigned(target: u32, fresh: bool, code: Code) -> Code
+    ensures { result ≡ assigned_of target fresh code }
 {
     match code {
-        Code::New => as_code(target),
-        Code::Old(c) => { if fresh && c == as_code(target) { -1 } else { c } }
+        Code::New => Code::Target(target),
+        Code::Target(u) => {
+            if fresh && u == target {
+                Code::Unknown
+            } else {
+                code
+            }
+        }
+        Code::Unknown => code,
+        Code::Null => code,
     }
 }
 
@@ -133,26 +135,24 @@ fn is_lost(fresh: bool, code: Code) -> bool
 
 fn missing_assigned(
     sets: &[List<i32>],
-    target: u128,
+    target: u32,
     fresh: bool,
     code: Code,
     place: u128,
 ) -> Option<Missing>
-    requires { target < 2 ^ 66 }
-    ensures { MatchOption result (HasCode sets.now place (assigned_of (pos target) fresh code)) (λ m. Lacks sets.now (λ R. HasCode R place (assigned_of (pos target) fresh code)) m.to m.code) }
+    ensures { MatchOption result (HasCode (codes_of sets.now) place (assigned_of target fresh code)) (λ m. Lacks (codes_of sets.now) (λ R. HasCode R place (assigned_of target fresh code)) m.to m.code) }
 {
     missing_code(sets, place, assigned(target, fresh, code))
 }
 
 fn missing_asked(
     sets: &[List<i32>],
-    target: u128,
+    target: u32,
     fresh: bool,
     code: Code,
     place: u128,
 ) -> Option<Missing>
-    requires small { target < 2 ^ 66 }
-    ensures { MatchOption result (IsAsked sets.now (pos target) fresh code place) (λ m. Lacks sets.now (λ R. IsAsked R (pos target) fresh code place) m.to m.code) }
+    ensures { MatchOption result (IsAsked (codes_of sets.now) target fresh code place) (λ m. Lacks (codes_of sets.now) (λ R. IsAsked R target fresh code place) m.to m.code) }
 {
     match missing_assigned(sets, target, fresh, code, place) {
         Some(missing) => Some(missing),
@@ -168,13 +168,12 @@ fn missing_asked(
 
 fn missing_at(
     sets: &[List<i32>],
-    target: u128,
+    target: u32,
     fresh: bool,
     code: Code,
     place: Option<u128>,
 ) -> Option<Missing>
-    requires small { target < 2 ^ 66 }
-    ensures { MatchOption result (MaybeAsked sets.now (pos target) fresh code place) (λ m. Lacks sets.now (λ R. MaybeAsked R (pos target) fresh code place) m.to m.code) }
+    ensures { MatchOption result (MaybeAsked (codes_of sets.now) target fresh code place) (λ m. Lacks (codes_of sets.now) (λ R. MaybeAsked R target fresh code place) m.to m.code) }
 {
     match place {
         None => None,
@@ -185,13 +184,12 @@ fn missing_at(
 fn missing_in_cell(
     s: &Scope,
     sets: &[List<i32>],
-    target: u128,
+    target: u32,
     fresh: bool,
     gifts: &Gifts,
-    cell: Option<u128>,
+    cell: Option<u32>,
 ) -> Option<Missing>
-    requires small { target < 2 ^ 66 }
-    ensures { MatchOption result (CellAsked (setting s.entry.now) sets.now (pos target) fresh (gift_at_in gifts.now) cell) (λ m. Lacks sets.now (λ R. CellAsked (setting s.entry.now) R (pos target) fresh (gift_at_in gifts.now) cell) m.to m.code) }
+    ensures { MatchOption result (CellAsked (setting s.entry.now) (codes_of sets.now) target fresh (gift_at_in gifts.now) cell) (λ m. Lacks (codes_of sets.now) (λ R. CellAsked (setting s.entry.now) R target fresh (gift_at_in gifts.now) cell) m.to m.code) }
 {
     match cell {
         None => None,
@@ -199,7 +197,7 @@ fn missing_in_cell(
             sets,
             target,
             fresh,
-            settled(gift_at(gifts, cell)),
+            settled(gift_at(gifts, u128::from(cell))),
             content_place(s, cell),
         ),
     }
@@ -209,15 +207,14 @@ fn missing_in_cell(
 fn missing_in_cells(
     s: &Scope,
     sets: &[List<i32>],
-    target: u128,
+    target: u32,
     g: &Proc,
     k: &Codes,
     fresh: bool,
     gifts: &Gifts,
     items: &[Item],
 ) -> Option<Missing>
-    requires small { target < 2 ^ 66 }
-    ensures { MatchOption result ((x : ItemValue) → Contains items.now x → CellAsked (setting s.entry.now) sets.now (pos target) fresh (gift_at_in gifts.now) (item_target_in (setting s.entry.now) g.now (choice_of (setting s.entry.now) k.entry.now) x)) (λ m. Lacks sets.now (λ R. (x : ItemValue) → Contains items.now x → CellAsked (setting s.entry.now) R (pos target) fresh (gift_at_in gifts.now) (item_target_in (setting s.entry.now) g.now (choice_of (setting s.entry.now) k.entry.now) x)) m.to m.code) }
+    ensures { MatchOption result ((x : ItemValue) → Contains items.now x → CellAsked (setting s.entry.now) (codes_of sets.now) target fresh (gift_at_in gifts.now) (item_target_in (setting s.entry.now) g.now (choice_of (setting s.entry.now) k.entry.now) x)) (λ m. Lacks (codes_of sets.now) (λ R. (x : ItemValue) → Contains items.now x → CellAsked (setting s.entry.now) R target fresh (gift_at_in gifts.now) (item_target_in (setting s.entry.now) g.now (choice_of (setting s.entry.now) k.entry.now) x)) m.to m.code) }
 {
     let [item, more @ ..] = items else {
         return None;
@@ -232,15 +229,14 @@ fn missing_in_cells(
 fn missing_given(
     s: &Scope,
     sets: &[List<i32>],
-    target: u128,
+    target: u32,
     into: Option<u128>,
     g: &Proc,
     k: &Codes,
     fresh: bool,
     gifts: &Gifts,
 ) -> Option<Missing>
-    requires small { target < 2 ^ 66 }
-    ensures { MatchOption result (GivenHolds (setting s.entry.now) sets.now (pos target) into g.now (choice_of (setting s.entry.now) k.entry.now) fresh (gift_at_in gifts.now)) (λ m. Lacks sets.now (λ R. GivenHolds (setting s.entry.now) R (pos target) into g.now (choice_of (setting s.entry.now) k.entry.now) fresh (gift_at_in gifts.now)) m.to m.code) }
+    ensures { MatchOption result (GivenHolds (setting s.entry.now) (codes_of sets.now) target into g.now (choice_of (setting s.entry.now) k.entry.now) fresh (gift_at_in gifts.now)) (λ m. Lacks (codes_of sets.now) (λ R. GivenHolds (setting s.entry.now) R target into g.now (choice_of (setting s.entry.now) k.entry.now) fresh (gift_at_in gifts.now)) m.to m.code) }
 {
     match missing_at(sets, target, fresh, settled(gift_at(gifts, 0)), into) {
         Some(missing) => Some(missing),
@@ -261,15 +257,14 @@ fn missing_given(
 fn missing_after(
     s: &Scope,
     sets: &[List<i32>],
-    target: u128,
+    target: u32,
     into: Option<u128>,
     g: &Proc,
     k: &Codes,
     atoms: &[Atom],
     gifts: &Gifts,
 ) -> Option<Missing>
-    requires small { target < 2 ^ 66 }
-    ensures { MatchOption result (AfterHolds (setting s.entry.now) sets.now (pos target) into g.now (choice_of (setting s.entry.now) k.entry.now) atoms.now (gift_at_in gifts.now)) (λ m. Lacks sets.now (λ R. AfterHolds (setting s.entry.now) R (pos target) into g.now (choice_of (setting s.entry.now) k.entry.now) atoms.now (gift_at_in gifts.now)) m.to m.code) }
+    ensures { MatchOption result (AfterHolds (setting s.entry.now) (codes_of sets.now) target into g.now (choice_of (setting s.entry.now) k.entry.now) atoms.now (gift_at_in gifts.now)) (λ m. Lacks (codes_of sets.now) (λ R. AfterHolds (setting s.entry.now) R target into g.now (choice_of (setting s.entry.now) k.entry.now) atoms.now (gift_at_in gifts.now)) m.to m.code) }
 {
     if has_false_atom(s, g, k, gifts, atoms) {
         return None;
@@ -281,7 +276,7 @@ fn missing_after(
 fn missing_walked(
     s: &Scope,
     sets: &[List<i32>],
-    target: u128,
+    target: u32,
     into: Option<u128>,
     g: &Proc,
     k: &Codes,
@@ -289,8 +284,7 @@ fn missing_walked(
     rest: &[Atom],
     gifts: &Gifts,
 ) -> Option<Missing>
-    requires small { target < 2 ^ 66 }
-    ensures { MatchOption result (AfterHolds (setting s.entry.now) sets.now (pos target) into g.now (choice_of (setting s.entry.now) k.entry.now) atoms.now (walked (setting s.entry.now) g.now (choice_of (setting s.entry.now) k.entry.now) (gift_at_in gifts.now) rest.now)) (λ m. Lacks sets.now (λ R. AfterHolds (setting s.entry.now) R (pos target) into g.now (choice_of (setting s.entry.now) k.entry.now) atoms.now (walked (setting s.entry.now) g.now (choice_of (setting s.entry.now) k.entry.now) (gift_at_in gifts.now) rest.now)) m.to m.code) }
+    ensures { MatchOption result (AfterHolds (setting s.entry.now) (codes_of sets.now) target into g.now (choice_of (setting s.entry.now) k.entry.now) atoms.now (walked (setting s.entry.now) g.now (choice_of (setting s.entry.now) k.entry.now) (gift_at_in gifts.now) rest.now)) (λ m. Lacks (codes_of sets.now) (λ R. AfterHolds (setting s.entry.now) R target into g.now (choice_of (setting s.entry.now) k.entry.now) atoms.now (walked (setting s.entry.now) g.now (choice_of (setting s.entry.now) k.entry.now) (gift_at_in gifts.now) rest.now)) m.to m.code) }
 {
     let [atom, more @ ..] = rest else {
         return missing_after(s, sets, target, into, g, k, atoms, gifts);
@@ -317,14 +311,13 @@ fn missing_walked(
 fn missing_alternative(
     s: &Scope,
     sets: &[List<i32>],
-    target: u128,
+    target: u32,
     into: Option<u128>,
     g: &Proc,
     k: &Codes,
     atoms: &[Atom],
 ) -> Option<Missing>
-    requires small { target < 2 ^ 66 }
-    ensures { MatchOption result (AlternativeHolds (setting s.entry.now) sets.now (pos target) into g.now (choice_of (setting s.entry.now) k.entry.now) atoms.now) (λ m. Lacks sets.now (λ R. AlternativeHolds (setting s.entry.now) R (pos target) into g.now (choice_of (setting s.entry.now) k.entry.now) atoms.now) m.to m.code) }
+    ensures { MatchOption result (AlternativeHolds (setting s.entry.now) (codes_of sets.now) target into g.now (choice_of (setting s.entry.now) k.entry.now) atoms.now) (λ m. Lacks (codes_of sets.now) (λ R. AlternativeHolds (setting s.entry.now) R target into g.now (choice_of (setting s.entry.now) k.entry.now) atoms.now) m.to m.code) }
 {
     missing_walked(s, sets, target, into, g, k, atoms, atoms, &Gifts::Done)
 }
@@ -333,14 +326,13 @@ fn missing_alternative(
 fn missing_each(
     s: &Scope,
     sets: &[List<i32>],
-    target: u128,
+    target: u32,
     into: Option<u128>,
     g: &Proc,
     k: &Codes,
     gives: &[List<Atom>],
 ) -> Option<Missing>
-    requires small { target < 2 ^ 66 }
-    ensures { MatchOption result ((atoms : Items AtomValue) → Contains gives.now atoms → AlternativeHolds (setting s.entry.now) sets.now (pos target) into g.now (choice_of (setting s.entry.now) k.entry.now) atoms) (λ m. Lacks sets.now (λ R. (atoms : Items AtomValue) → Contains gives.now atoms → AlternativeHolds (setting s.entry.now) R (pos target) into g.now (choice_of (setting s.entry.now) k.entry.now) atoms) m.to m.code) }
+    ensures { MatchOption result ((atoms : Items AtomValue) → Contains gives.now atoms → AlternativeHolds (setting s.entry.now) (codes_of sets.now) target into g.now (choice_of (setting s.entry.now) k.entry.now) atoms) (λ m. Lacks (codes_of sets.now) (λ R. (atoms : Items AtomValue) → Contains gives.now atoms → AlternativeHolds (setting s.entry.now) R target into g.now (choice_of (setting s.entry.now) k.entry.now) atoms) m.to m.code) }
 {
     let [atoms, more @ ..] = gives else {
         return None;
@@ -363,14 +355,13 @@ fn has_none(gives: &[List<Atom>]) -> bool
 fn missing_in_ensures(
     s: &Scope,
     sets: &[List<i32>],
-    target: u128,
+    target: u32,
     into: Option<u128>,
     g: &Proc,
     k: &Codes,
     gives: &[List<Atom>],
 ) -> Option<Missing>
-    requires small { target < 2 ^ 66 }
-    ensures { MatchOption result ((atoms : Items AtomValue) → Contains (alternatives_of gives.now) atoms → AlternativeHolds (setting s.entry.now) sets.now (pos target) into g.now (choice_of (setting s.entry.now) k.entry.now) atoms) (λ m. Lacks sets.now (λ R. (atoms : Items AtomValue) → Contains (alternatives_of gives.now) atoms → AlternativeHolds (setting s.entry.now) R (pos target) into g.now (choice_of (setting s.entry.now) k.entry.now) atoms) m.to m.code) }
+    ensures { MatchOption result ((atoms : Items AtomValue) → Contains (alternatives_of gives.now) atoms → AlternativeHolds (setting s.entry.now) (codes_of sets.now) target into g.now (choice_of (setting s.entry.now) k.entry.now) atoms) (λ m. Lacks (codes_of sets.now) (λ R. (atoms : Items AtomValue) → Contains (alternatives_of gives.now) atoms → AlternativeHolds (setting s.entry.now) R target into g.now (choice_of (setting s.entry.now) k.entry.now) atoms) m.to m.code) }
 {
     if has_none(gives) {
         missing_alternative(s, sets, target, into, g, k, &[])
@@ -383,13 +374,12 @@ fn missing_in_ensures(
 fn missing_in_choice(
     s: &Scope,
     sets: &[List<i32>],
-    target: u128,
+    target: u32,
     into: Option<u128>,
     g: &Proc,
     k: &Codes,
 ) -> Option<Missing>
-    requires small { target < 2 ^ 66 }
-    ensures { MatchOption result (ChoiceHolds (setting s.entry.now) sets.now (pos target) into g.now (choice_of (setting s.entry.now) k.entry.now)) (λ m. Lacks sets.now (λ R. ChoiceHolds (setting s.entry.now) R (pos target) into g.now (choice_of (setting s.entry.now) k.entry.now)) m.to m.code) }
+    ensures { MatchOption result (ChoiceHolds (setting s.entry.now) (codes_of sets.now) target into g.now (choice_of (setting s.entry.now) k.entry.now)) (λ m. Lacks (codes_of sets.now) (λ R. ChoiceHolds (setting s.entry.now) R target into g.now (choice_of (setting s.entry.now) k.entry.now)) m.to m.code) }
 {
     if is_failing(s, g, k) {
         None
@@ -401,13 +391,13 @@ fn missing_in_choice(
 // ---- choices
 
 /// A cell that has no pick yet.
-fn new_cell(cells: &Picks, cell: Option<u128>) -> Option<u128>
+fn new_cell(cells: &Picks, cell: Option<u32>) -> Option<u32>
     ensures { result ≡ new_cell_in cells.now cell }
 {
     match cell {
         None => None,
         Some(cell) => {
-            if has_pick(cells, cell) {
+            if has_pick(cells, u128::from(cell)) {
                 None
             } else {
                 Some(cell)
@@ -417,8 +407,8 @@ fn new_cell(cells: &Picks, cell: Option<u128>) -> Option<u128>
 }
 
 /// The codes of what a target holds.
-fn cell_codes<'a>(s: &Scope, sets: &'a [List<i32>], cell: u128) -> &'a [i32]
-    ensures { result.now ≡ codes_of_place sets.now (content_place_of (setting s.entry.now) cell) }
+fn cell_codes<'a>(s: &Scope, sets: &'a [List<i32>], cell: u32) -> &'a [i32]
+    ensures { row_codes result.now ≡ codes_of_place (codes_of sets.now) (content_place_of (setting s.entry.now) cell) }
 {
     match content_place(s, cell) {
         None => &[],
@@ -430,16 +420,15 @@ fn cell_codes<'a>(s: &Scope, sets: &'a [List<i32>], cell: u128) -> &'a [i32]
 fn missing_in_listed(
     s: &Scope,
     sets: &[List<i32>],
-    target: u128,
+    target: u32,
     into: Option<u128>,
     g: &Proc,
     formals: &Picks,
     rest: &[Bytes],
     cells: &Picks,
 ) -> Option<Missing>
-    requires small { target < 2 ^ 66 }
     requires ahead { CellsAhead (setting s.now) g.now (pick_at_in formals.now) (listed_ahead (setting s.now) rest.now) cells.now }
-    ensures { MatchOption result (CellsOver (setting s.entry.now) sets.now (pos target) into g.now (pick_at_in formals.now) cells.now) (λ m. Lacks sets.now (λ R. CellsOver (setting s.entry.now) R (pos target) into g.now (pick_at_in formals.now) cells.now) m.to m.code) }
+    ensures { MatchOption result (CellsOver (setting s.entry.now) (codes_of sets.now) target into g.now (pick_at_in formals.now) cells.now) (λ m. Lacks (codes_of sets.now) (λ R. CellsOver (setting s.entry.now) R target into g.now (pick_at_in formals.now) cells.now) m.to m.code) }
 {
     let [name, more @ ..] = rest else {
         return missing_in_choice(
@@ -457,10 +446,10 @@ fn missing_in_listed(
     match new_cell(cells, listed_cell(s, name)) {
         None => missing_in_listed(s, sets, target, into, g, formals, more, cells),
         Some(cell) => {
-            for code in cell_codes(s, sets, cell) {
+            for number in cell_codes(s, sets, cell) {
                 let picked = Picks::Pick {
-                    key: cell,
-                    code: *code,
+                    key: cell as u128,
+                    code: code_of(*number),
                     rest: &*cells,
                 };
                 match missing_in_listed(s, sets, target, into, g, formals, more, &picked) {
@@ -474,7 +463,7 @@ fn missing_in_listed(
 }
 
 /// The cell of a formal with its pick.
-fn starred_at(kind: VarKind, formals: &Picks, number: usize) -> Option<u128>
+fn starred_at(kind: VarKind, formals: &Picks, number: usize) -> Option<u32>
     ensures { result ≡ starred_cell_of kind (pick_at_in formals.now number) }
 {
     starred_cell(kind, pick_at(formals, number as u128))
@@ -484,7 +473,7 @@ fn starred_at(kind: VarKind, formals: &Picks, number: usize) -> Option<u128>
 fn missing_in_starred(
     s: &Scope,
     sets: &[List<i32>],
-    target: u128,
+    target: u32,
     into: Option<u128>,
     g: &Proc,
     formals: &Picks,
@@ -492,10 +481,9 @@ fn missing_in_starred(
     number: usize,
     cells: &Picks,
 ) -> Option<Missing>
-    requires target { target < 2 ^ 66 }
     requires ahead { CellsAhead (setting s.now) g.now (pick_at_in formals.now) (starred_ahead (setting s.now) g.now (pick_at_in formals.now) number rest.now) cells.now }
     requires small { number + length rest.now ≤ length g.now.formals }
-    ensures { MatchOption result (CellsOver (setting s.entry.now) sets.now (pos target) into g.now (pick_at_in formals.now) cells.now) (λ m. Lacks sets.now (λ R. CellsOver (setting s.entry.now) R (pos target) into g.now (pick_at_in formals.now) cells.now) m.to m.code) }
+    ensures { MatchOption result (CellsOver (setting s.entry.now) (codes_of sets.now) target into g.now (pick_at_in formals.now) cells.now) (λ m. Lacks (codes_of sets.now) (λ R. CellsOver (setting s.entry.now) R target into g.now (pick_at_in formals.now) cells.now) m.to m.code) }
 {
     let [formal, more @ ..] = rest else {
         return missing_in_listed(
@@ -514,10 +502,10 @@ fn missing_in_starred(
     match new_cell(cells, starred_at(formal.kind, formals, number)) {
         None => missing_in_starred(s, sets, target, into, g, formals, more, next, cells),
         Some(cell) => {
-            for code in cell_codes(s, sets, cell) {
+            for number in cell_codes(s, sets, cell) {
                 let picked = Picks::Pick {
-                    key: cell,
-                    code: *code,
+                    key: cell as u128,
+                    code: code_of(*number),
                     rest: &*cells,
                 };
                 match missing_in_starred(s, sets, target, into, g, formals, more, next, &picked) {
@@ -532,7 +520,7 @@ fn missing_in_starred(
 
 /// The codes that an argument can have.
 fn argument_codes<'a>(s: &Scope, sets: &'a [List<i32>], argument: Option<&AnyOperand>) -> &'a [i32]
-    ensures { result.now ≡ argument_codes_in (setting s.entry.now) sets.now (option_copied argument.entry) }
+    ensures { row_codes result.now ≡ argument_codes_in (setting s.entry.now) (codes_of sets.now) (option_copied argument.entry) }
 {
     match argument {
         None => &[],
@@ -553,7 +541,7 @@ fn argument_codes<'a>(s: &Scope, sets: &'a [List<i32>], argument: Option<&AnyOpe
 fn missing_in_formals(
     s: &Scope,
     sets: &[List<i32>],
-    target: u128,
+    target: u32,
     into: Option<u128>,
     g: &Proc,
     args: &List<AnyOperand>,
@@ -561,10 +549,9 @@ fn missing_in_formals(
     number: usize,
     formals: &Picks,
 ) -> Option<Missing>
-    requires target { target < 2 ^ 66 }
     requires ahead { FormalsAhead g.now rest.now number formals.now }
     requires small { number + length rest.now ≤ length g.now.formals }
-    ensures { MatchOption result (FormalsOver (setting s.entry.now) sets.now (pos target) into g.now args.now formals.now) (λ m. Lacks sets.now (λ R. FormalsOver (setting s.entry.now) R (pos target) into g.now args.now formals.now) m.to m.code) }
+    ensures { MatchOption result (FormalsOver (setting s.entry.now) (codes_of sets.now) target into g.now args.now formals.now) (λ m. Lacks (codes_of sets.now) (λ R. FormalsOver (setting s.entry.now) R target into g.now args.now formals.now) m.to m.code) }
 {
     let [formal, more @ ..] = rest else {
         return missing_in_starred(
@@ -587,7 +574,7 @@ fn missing_in_formals(
     for code in argument_codes(s, sets, args.get(number)) {
         let picked = Picks::Pick {
             key: number as u128,
-            code: *code,
+            code: code_of(*code),
             rest: &*formals,
         };
         match missing_in_formals(s, sets, target, into, g, args, more, next, &picked) {
@@ -598,17 +585,20 @@ fn missing_in_formals(
     None
 }
 
+/// What a call asks for; nothing where it changes no pointer, so that its choices aren't gone through.
 fn missing_in_callee(
     s: &Scope,
     sets: &[List<i32>],
-    target: u128,
+    target: u32,
     into: Option<u128>,
     args: &List<AnyOperand>,
     g: &Proc,
 ) -> Option<Missing>
-    requires { target < 2 ^ 66 }
-    ensures { MatchOption result (CalleeHolds (setting s.entry.now) sets.now (pos target) into args.now (Some g.now)) (λ m. Lacks sets.now (λ R. CalleeHolds (setting s.entry.now) R (pos target) into args.now (Some g.now)) m.to m.code) }
+    ensures { MatchOption result (CalleeHolds (setting s.entry.now) (codes_of sets.now) target into args.now (Some g.now)) (λ m. Lacks (codes_of sets.now) (λ R. CalleeHolds (setting s.entry.now) R target into args.now (Some g.now)) m.to m.code) }
 {
+    if !changes_pointer(s, g, into) {
+        return None;
+    }
     missing_in_formals(
         s,
         sets,
@@ -625,13 +615,12 @@ fn missing_in_callee(
 fn missing_in_procedure(
     s: &Scope,
     sets: &[List<i32>],
-    target: u128,
+    target: u32,
     into: Option<u128>,
     name: &Bytes,
     args: &List<AnyOperand>,
 ) -> Option<Missing>
-    requires { target < 2 ^ 66 }
-    ensures { MatchOption result (CalleeHolds (setting s.entry.now) sets.now (pos target) into args.now (callee_in s.entry.now.p.now name.now)) (λ m. Lacks sets.now (λ R. CalleeHolds (setting s.entry.now) R (pos target) into args.now (callee_in s.entry.now.p.now name.now)) m.to m.code) }
+    ensures { MatchOption result (CalleeHolds (setting s.entry.now) (codes_of sets.now) target into args.now (callee_in s.entry.now.p.now name.now)) (λ m. Lacks (codes_of sets.now) (λ R. CalleeHolds (setting s.entry.now) R target into args.now (callee_in s.entry.now.p.now name.now)) m.to m.code) }
 {
     match callee(s.p, name) {
         None => None,
@@ -643,13 +632,12 @@ fn missing_in_procedure(
 pub(crate) fn missing_in_call(
     s: &Scope,
     sets: &[List<i32>],
-    target: u128,
+    target: u32,
     into: Option<u128>,
     name: &Bytes,
     args: &List<AnyOperand>,
 ) -> Option<Missing>
-    requires { target < 2 ^ 66 }
-    ensures { MatchOption result (CallHolds (setting s.entry.now) sets.now (pos target) into name.now args.now) (λ m. Lacks sets.now (λ R. CallHolds (setting s.entry.now) R (pos target) into name.now args.now) m.to m.code) }
+    ensures { MatchOption result (CallHolds (setting s.entry.now) (codes_of sets.now) target into name.now args.now) (λ m. Lacks (codes_of sets.now) (λ R. CallHolds (setting s.entry.now) R target into name.now args.now) m.to m.code) }
 {
     if is_malloc_name(name.as_slice()) {
         missing_malloc(sets, target, into)

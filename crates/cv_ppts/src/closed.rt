@@ -1,29 +1,32 @@
 //! Whether sets of codes are closed under the statements of a case's procedure.
-ghost use Rattle.std.specs.Prelude.{◌≡◌, ◌+◌, ◌<◌, ◌≤◌, ◌^◌, ◌↔◌, IsTrue, MatchOption, count_by, drop, length, pos, slice_get, ℕ};
+ghost use Rattle.std.specs.Prelude.{◌≡◌, ◌+◌, ◌≤◌, ◌↔◌, IsTrue, ◌<◌, MatchOption, count_by, drop, length, slice_get, ℕ};
 ghost use Rattle.std.specs.Option.{option_copied};
-ghost use Rattle.cv_core.specs.Names.{stmts_of as stmts_in};
+ghost use Rattle.cv_core.specs.Names.{objects_of, stmts_of as stmts_in};
 ghost use Rattle.cv_points.specs.Holders.{pointer_count as pointer_count_of, pointer_locals};
 ghost use Rattle.cv_ppts.specs.Keys.{setting};
 ghost use Rattle.cv_ppts.specs.Lacking.{Lacks};
+ghost use Rattle.cv_ppts.specs.Numbers.{codes_of};
 ghost use Rattle.cv_ppts.specs.Plain.{AreCoded, AreUnknown, HasEntryCodes, plain_rule as plain_rule_of};
 ghost use Rattle.cv_ppts.specs.Setting.{allocates as allocates_of, block_count as block_count_of, cell_blocks as cell_blocks_of, first_content as first_content_of, formal_count as formal_count_of, object_cells};
-ghost use Rattle.cv_ppts.specs.Targets.{AreClosed, AreClosedFor, CallFormHolds, CallStatementHolds, FormHolds, HoldsAt};
+ghost use Rattle.cv_ppts.specs.Targets.{AreClosed, AreClosedFor, CallFormHolds, CallStatementHolds, FormHolds, HasRoomFor, HoldsAt};
 
 use crate::calls::{missing_in_call, missing_losses};
 use crate::codes::{Case, Targets};
 use crate::listing::proc_at;
 use crate::places::{allocates, cell_count, local_count, new_target, pointer_count};
-use crate::scope::{block_count, cell_blocks, content_codes, formals_of, scope_of};
+use crate::scope::{block_count, cell_blocks, content_codes, formals_of, greatest, scope_of};
 use crate::sets::{
     Missing, Rule, missing_by, missing_coded, missing_unknown, place_of_variable, plain_rule,
 };
 use crate::setting::Scope;
-use cv_core::{AnyOperand, Bytes, Form, List, Proc, Program, Stmt, locals_of, stmts_of};
+use cv_core::{
+    AnyOperand, Bytes, Form, List, Proc, Program, Stmt, locals_of, object_count, stmts_of,
+};
 
 // ---- the codes at entry
 
 fn missing_of_formals(s: &Scope, sets: &[List<i32>]) -> Option<Missing>
-    ensures { MatchOption result (AreCoded sets.now 0 s.entry.now.codes.now (formal_count_of (setting s.entry.now))) (λ m. Lacks sets.now (λ R. AreCoded R 0 s.entry.now.codes.now (formal_count_of (setting s.entry.now))) m.to m.code) }
+    ensures { MatchOption result (AreCoded (codes_of sets.now) 0 s.entry.now.codes.now (formal_count_of (setting s.entry.now))) (λ m. Lacks (codes_of sets.now) (λ R. AreCoded R 0 s.entry.now.codes.now (formal_count_of (setting s.entry.now))) m.to m.code) }
 {
     missing_coded(sets, 0, s.codes, formals_of(s))
 }
@@ -35,7 +38,7 @@ fn locals_count(s: &Scope) -> usize
 }
 
 fn missing_of_locals(s: &Scope, sets: &[List<i32>]) -> Option<Missing>
-    ensures { MatchOption result (AreUnknown sets.now (formal_count_of (setting s.entry.now)) (length (pointer_locals s.entry.now.f.now))) (λ m. Lacks sets.now (λ R. AreUnknown R (formal_count_of (setting s.entry.now)) (length (pointer_locals s.entry.now.f.now))) m.to m.code) }
+    ensures { MatchOption result (AreUnknown (codes_of sets.now) (formal_count_of (setting s.entry.now)) (length (pointer_locals s.entry.now.f.now))) (λ m. Lacks (codes_of sets.now) (λ R. AreUnknown R (formal_count_of (setting s.entry.now)) (length (pointer_locals s.entry.now.f.now))) m.to m.code) }
 {
     missing_unknown(sets, formals_of(s) as u128, locals_count(s))
 }
@@ -47,7 +50,7 @@ fn content_count(s: &Scope) -> u32
 }
 
 fn missing_of_contents(s: &Scope, sets: &[List<i32>]) -> Option<Missing>
-    ensures { MatchOption result (AreCoded sets.now (pointer_count_of s.entry.now.f.now) (drop (first_content_of (setting s.entry.now)) s.entry.now.codes.now) (cell_blocks_of (setting s.entry.now) (block_count_of (setting s.entry.now)))) (λ m. Lacks sets.now (λ R. AreCoded R (pointer_count_of s.entry.now.f.now) (drop (first_content_of (setting s.entry.now)) s.entry.now.codes.now) (cell_blocks_of (setting s.entry.now) (block_count_of (setting s.entry.now)))) m.to m.code) }
+    ensures { MatchOption result (AreCoded (codes_of sets.now) (pointer_count_of s.entry.now.f.now) (drop (first_content_of (setting s.entry.now)) s.entry.now.codes.now) (cell_blocks_of (setting s.entry.now) (block_count_of (setting s.entry.now)))) (λ m. Lacks (codes_of sets.now) (λ R. AreCoded R (pointer_count_of s.entry.now.f.now) (drop (first_content_of (setting s.entry.now)) s.entry.now.codes.now) (cell_blocks_of (setting s.entry.now) (block_count_of (setting s.entry.now)))) m.to m.code) }
 {
     missing_coded(
         sets,
@@ -64,7 +67,7 @@ fn cells_count(s: &Scope) -> usize
 }
 
 fn missing_of_cells(s: &Scope, sets: &[List<i32>]) -> Option<Missing>
-    ensures { MatchOption result (AreUnknown sets.now (pointer_count_of s.entry.now.f.now + cell_blocks_of (setting s.entry.now) (block_count_of (setting s.entry.now))) (count_by (λ c. c) (object_cells s.entry.now.f.now))) (λ m. Lacks sets.now (λ R. AreUnknown R (pointer_count_of s.entry.now.f.now + cell_blocks_of (setting s.entry.now) (block_count_of (setting s.entry.now))) (count_by (λ c. c) (object_cells s.entry.now.f.now))) m.to m.code) }
+    ensures { MatchOption result (AreUnknown (codes_of sets.now) (pointer_count_of s.entry.now.f.now + cell_blocks_of (setting s.entry.now) (block_count_of (setting s.entry.now))) (count_by (λ c. c) (object_cells s.entry.now.f.now))) (λ m. Lacks (codes_of sets.now) (λ R. AreUnknown R (pointer_count_of s.entry.now.f.now + cell_blocks_of (setting s.entry.now) (block_count_of (setting s.entry.now))) (count_by (λ c. c) (object_cells s.entry.now.f.now))) m.to m.code) }
 {
     missing_unknown(
         sets,
@@ -75,7 +78,7 @@ fn missing_of_cells(s: &Scope, sets: &[List<i32>]) -> Option<Missing>
 
 /// What the codes at entry ask for.
 pub(crate) fn missing_at_entry(s: &Scope, sets: &[List<i32>]) -> Option<Missing>
-    ensures { MatchOption result (HasEntryCodes (setting s.entry.now) sets.now) (λ m. Lacks sets.now (λ R. HasEntryCodes (setting s.entry.now) R) m.to m.code) }
+    ensures { MatchOption result (HasEntryCodes (setting s.entry.now) (codes_of sets.now)) (λ m. Lacks (codes_of sets.now) (λ R. HasEntryCodes (setting s.entry.now) R) m.to m.code) }
 {
     match missing_of_formals(s, sets) {
         Some(missing) => Some(missing),
@@ -95,14 +98,13 @@ pub(crate) fn missing_at_entry(s: &Scope, sets: &[List<i32>]) -> Option<Missing>
 fn missing_in_statement(
     s: &Scope,
     sets: &[List<i32>],
-    target: u128,
+    target: u32,
     into: &Option<Bytes>,
     name: &Bytes,
     args: &List<AnyOperand>,
     new: bool,
 ) -> Option<Missing>
-    requires { target < 2 ^ 66 }
-    ensures { MatchOption result (CallStatementHolds (setting s.entry.now) sets.now (pos target) into.now name.now args.now new) (λ m. Lacks sets.now (λ R. CallStatementHolds (setting s.entry.now) R (pos target) into.now name.now args.now new) m.to m.code) }
+    ensures { MatchOption result (CallStatementHolds (setting s.entry.now) (codes_of sets.now) target into.now name.now args.now new) (λ m. Lacks (codes_of sets.now) (λ R. CallStatementHolds (setting s.entry.now) R target into.now name.now args.now new) m.to m.code) }
 {
     let place = place_of_variable(s, into);
     match missing_in_call(s, sets, target, place, name, args) {
@@ -117,9 +119,8 @@ fn missing_in_statement(
     }
 }
 
-fn missing_call(s: &Scope, sets: &[List<i32>], target: u128, form: &Form) -> Option<Missing>
-    requires { target < 2 ^ 66 }
-    ensures { MatchOption result (CallFormHolds (setting s.entry.now) sets.now (pos target) form.now (allocates_of s.entry.now.p.now form.now)) (λ m. Lacks sets.now (λ R. CallFormHolds (setting s.entry.now) R (pos target) form.now (allocates_of s.entry.now.p.now form.now)) m.to m.code) }
+fn missing_call(s: &Scope, sets: &[List<i32>], target: u32, form: &Form) -> Option<Missing>
+    ensures { MatchOption result (CallFormHolds (setting s.entry.now) (codes_of sets.now) target form.now (allocates_of s.entry.now.p.now form.now)) (λ m. Lacks (codes_of sets.now) (λ R. CallFormHolds (setting s.entry.now) R target form.now (allocates_of s.entry.now.p.now form.now)) m.to m.code) }
 {
     let new = allocates(s.p, form);
     match form {
@@ -150,12 +151,11 @@ pub(crate) fn missing_for(
     s: &Scope,
     sets: &[List<i32>],
     rule: Option<Rule>,
-    target: u128,
+    target: u32,
     form: &Form,
 ) -> Option<Missing>
     requires rule { rule ≡ plain_rule_of (setting s.now) form.now }
-    requires target { target < 2 ^ 66 }
-    ensures { MatchOption result (FormHolds (setting s.entry.now) sets.now (pos target) form.now) (λ m. Lacks sets.now (λ R. FormHolds (setting s.entry.now) R (pos target) form.now) m.to m.code) }
+    ensures { MatchOption result (FormHolds (setting s.entry.now) (codes_of sets.now) target form.now) (λ m. Lacks (codes_of sets.now) (λ R. FormHolds (setting s.entry.now) R target form.now) m.to m.code) }
 {
     match missing_by(s, sets, rule) {
         Some(missing) => Some(missing),
@@ -164,9 +164,8 @@ pub(crate) fn missing_for(
 }
 
 /// What a statement asks for.
-fn missing_in_form(s: &Scope, sets: &[List<i32>], target: u128, form: &Form) -> Option<Missing>
-    requires { target < 2 ^ 66 }
-    ensures { MatchOption result (FormHolds (setting s.entry.now) sets.now (pos target) form.now) (λ m. Lacks sets.now (λ R. FormHolds (setting s.entry.now) R (pos target) form.now) m.to m.code) }
+fn missing_in_form(s: &Scope, sets: &[List<i32>], target: u32, form: &Form) -> Option<Missing>
+    ensures { MatchOption result (FormHolds (setting s.entry.now) (codes_of sets.now) target form.now) (λ m. Lacks (codes_of sets.now) (λ R. FormHolds (setting s.entry.now) R target form.now) m.to m.code) }
 {
     missing_for(s, sets, plain_rule(s, form), target, form)
 }
@@ -184,7 +183,7 @@ pub(crate) fn statement_at(f: &Proc, statement: usize) -> Option<&Stmt>
 /// What the statement of a number asks for.
 fn missing_at(s: &Scope, sets: &[List<i32>], statement: usize) -> Option<Missing>
     requires { statement ≤ length (stmts_in s.now.f.now.body) }
-    ensures { MatchOption result (HoldsAt (setting s.entry.now) sets.now statement) (λ m. Lacks sets.now (λ R. HoldsAt (setting s.entry.now) R statement) m.to m.code) }
+    ensures { MatchOption result (HoldsAt (setting s.entry.now) (codes_of sets.now) statement) (λ m. Lacks (codes_of sets.now) (λ R. HoldsAt (setting s.entry.now) R statement) m.to m.code) }
 {
     match statement_at(s.f, statement) {
         None => None,
@@ -194,7 +193,7 @@ fn missing_at(s: &Scope, sets: &[List<i32>], statement: usize) -> Option<Missing
 
 /// What the statements ask for.
 fn missing_in_body(s: &Scope, sets: &[List<i32>]) -> Option<Missing>
-    ensures { MatchOption result ((k : ℕ) → HoldsAt (setting s.entry.now) sets.now k) (λ m. Lacks sets.now (λ R. (k : ℕ) → HoldsAt (setting s.entry.now) R k) m.to m.code) }
+    ensures { MatchOption result ((k : ℕ) → HoldsAt (setting s.entry.now) (codes_of sets.now) k) (λ m. Lacks (codes_of sets.now) (λ R. (k : ℕ) → HoldsAt (setting s.entry.now) R k) m.to m.code) }
 {
     for statement in 0..stmts_of(s.f).len() {
         match missing_at(s, sets, statement) {
@@ -207,7 +206,7 @@ fn missing_in_body(s: &Scope, sets: &[List<i32>]) -> Option<Missing>
 
 /// A code that sets are to have and lack.
 pub(crate) fn missing(s: &Scope, sets: &[List<i32>]) -> Option<Missing>
-    ensures { MatchOption result (AreClosed (setting s.entry.now) sets.now) (λ m. Lacks sets.now (λ R. AreClosed (setting s.entry.now) R) m.to m.code) }
+    ensures { MatchOption result (AreClosed (setting s.entry.now) (codes_of sets.now)) (λ m. Lacks (codes_of sets.now) (λ R. AreClosed (setting s.entry.now) R) m.to m.code) }
 {
     match missing_at_entry(s, sets) {
         Some(missing) => Some(missing),
@@ -216,7 +215,7 @@ pub(crate) fn missing(s: &Scope, sets: &[List<i32>]) -> Option<Missing>
 }
 
 fn is_closed(s: &Scope, sets: &[List<i32>]) -> bool
-    ensures { IsTrue result ↔ AreClosed (setting s.entry.now) sets.now }
+    ensures { IsTrue result ↔ AreClosed (setting s.entry.now) (codes_of sets.now) }
 {
     match missing(s, sets) {
         None => true,
@@ -224,11 +223,31 @@ fn is_closed(s: &Scope, sets: &[List<i32>]) -> bool
     }
 }
 
+fn has_few(f: &Proc, blocks: u32) -> bool
+    ensures { IsTrue result ↔ (blocks + length (objects_of f.now) + length (stmts_in f.now.body) < 2147483647) }
+{
+    let others = object_count(f) as u128 + stmts_of(f).len() as u128;
+    u128::from(blocks) + others < 2147483647
+}
+
+/// Whether the targets of a case of the procedure of this number are few enough for their numbers, as those of each case
+/// of a program within the limits are.
+pub fn has_room(p: &Program, proc: u32, case: &Case) -> bool
+    ensures room { IsTrue result ↔ HasRoomFor p.now proc case.now.codes }
+{
+    match proc_at(p, proc as usize) {
+        None => true,
+        Some(f) => has_few(f, greatest(case.codes.as_slice())),
+    }
+}
+
 /// Whether the codes of a case are closed under the statements of the procedure of this number: exactly where each
 /// code at entry, and each that a statement asks for by the codes that there are, is in its set. A pointer without a
-/// set counts as having the empty one; those of a procedure that isn't there are closed. It takes no memory.
+/// set counts as having the empty one, and a number below 0 as the unknown code; those of a procedure that isn't there
+/// are closed. It takes no memory.
 pub fn targets_closed(p: &Program, proc: u32, case: &Case, targets: &Targets) -> bool
-    ensures closed { IsTrue result ↔ AreClosedFor p.now proc case.now.codes targets.now.sets }
+    requires { HasRoomFor p.now proc case.now.codes }
+    ensures closed { IsTrue result ↔ AreClosedFor p.now proc case.now.codes (codes_of targets.now.sets) }
 {
     match proc_at(p, proc as usize) {
         None => true,

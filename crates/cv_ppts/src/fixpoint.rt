@@ -1,11 +1,12 @@
 //! The least closed codes of a case.
-ghost use Rattle.std.specs.Prelude.{◌≡◌, IfOk, IfSome, length, ℕ};
+ghost use Rattle.std.specs.Prelude.{◌≡◌, Contains, IfOk, IfSome, length, ℕ, ℤ};
 ghost use Rattle.cv_ppts.specs.Growing.{IsSaturated, IsTable};
 ghost use Rattle.cv_ppts.specs.Keys.{setting};
-ghost use Rattle.cv_ppts.specs.Plain.{IsWithin, Sets, codes_at};
+ghost use Rattle.cv_ppts.specs.Numbers.{IsNumber, codes_of, row_at};
+ghost use Rattle.cv_ppts.specs.Plain.{IsWithin, Sets};
 ghost use Rattle.cv_ppts.specs.Planned.{IsPlan};
 ghost use Rattle.cv_ppts.specs.Setting.{set_count as set_count_of};
-ghost use Rattle.cv_ppts.specs.Targets.{AreClosedFor, AreLeast, AreLeastFor, IsAscending, set_count_for};
+ghost use Rattle.cv_ppts.specs.Targets.{AreClosedFor, AreLeast, AreLeastFor, HasRoomFor, IsAscending, set_count_for};
 
 use crate::codes::{Case, Targets};
 use crate::growth::{empty_sets, pass};
@@ -90,13 +91,14 @@ fn least_sets(alloc: Global, s: &Scope) -> Result<Vec<List<i32>>, AllocError>
     }
 }
 
-#[tactic(auto, unfolding(crate::specs::Targets::AreClosedFor))]
+#[tactic(auto, unfolding(crate::specs::Targets::AreClosedFor, crate::specs::Targets::HasRoomFor))]
 fn least_targets(
     alloc: Global,
     p: &Program,
     proc: usize,
     codes: &[u32],
 ) -> Result<Vec<List<i32>>, AllocError>
+    requires { HasRoomFor p.now proc codes.now }
     ensures { IfOk result (λ sets. AreLeastFor p.now proc codes.now sets.items) }
 {
     match proc_at(p, proc) {
@@ -113,10 +115,12 @@ fn least_targets(
 /// are closed. A procedure that isn't there has no sets. An error is want of memory. The statements are gone through
 /// in passes, until a pass adds no code; each goes on until it asks for nothing.
 pub fn targets(alloc: Global, p: &Program, proc: u32, case: &Case) -> Result<Targets, AllocError>
+    requires { HasRoomFor p.now proc case.now.codes }
     ensures counted { IfOk result (λ targets. length targets.sets ≡ set_count_for p.now proc case.now.codes) }
-    ensures ascending { IfOk result (λ targets. (h : ℕ) → IsAscending (codes_at targets.sets h)) }
-    ensures closed { IfOk result (λ targets. AreClosedFor p.now proc case.now.codes targets.sets) }
-    ensures least { IfOk result (λ targets. (R : Sets) → length R ≡ set_count_for p.now proc case.now.codes → AreClosedFor p.now proc case.now.codes R → IsWithin targets.sets R) }
+    ensures ascending { IfOk result (λ targets. (h : ℕ) → IsAscending (row_at targets.sets h)) }
+    ensures numbers { IfOk result (λ targets. (h : ℕ) (n : ℤ) → Contains (row_at targets.sets h) n → IsNumber n) }
+    ensures closed { IfOk result (λ targets. AreClosedFor p.now proc case.now.codes (codes_of targets.sets)) }
+    ensures least { IfOk result (λ targets. (R : Sets) → length R ≡ set_count_for p.now proc case.now.codes → AreClosedFor p.now proc case.now.codes R → IsWithin (codes_of targets.sets) R) }
 {
     let sets = least_targets(alloc, p, proc as usize, case.codes.as_slice())?;
     Ok(Targets {

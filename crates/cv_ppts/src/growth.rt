@@ -1,6 +1,5 @@
 //! Sets of codes that grow by what they lack.
-ghost use Rattle.std.specs.Prelude.{◌≡◌, ◌++◌, ◌||◌, ◌∷◌, ◌≤◌, FitsSigned, IfOk, IfSome, OnOk, length, ℕ};
-ghost use Rattle.std.specs.Int.{w32};
+ghost use Rattle.std.specs.Prelude.{◌≡◌, ◌++◌, ◌||◌, ◌∷◌, ◌≤◌, IfOk, OnOk, length, ℕ};
 ghost use Rattle.cv_ppts.specs.Growing.{AreEmpty, IsAdded, IsTable, Settles, inserted};
 ghost use Rattle.cv_ppts.specs.Keys.{setting};
 ghost use Rattle.cv_ppts.specs.Plain.{HasEntryCodes};
@@ -8,6 +7,7 @@ ghost use Rattle.cv_ppts.specs.Planned.{IsPlan};
 ghost use Rattle.cv_ppts.specs.Targets.{AreClosed, HoldsAt};
 
 use crate::closed::missing_at_entry;
+use crate::numbers::number_of;
 use crate::plan::{Plan, missing_by_plan};
 use crate::sets::Missing;
 use crate::setting::Scope;
@@ -27,55 +27,48 @@ pub(crate) fn empty_sets(alloc: Global, count: usize) -> Result<Vec<List<i32>>, 
 
 // ---- one more code
 
-/// Puts the codes of a set up to `code` behind `items`, and gives those above it.
-fn push_below<'a>(items: &mut Vec<i32>, set: &'a [i32], code: i32) -> Result<&'a [i32], AllocError>
-    ensures { IfOk result (λ rest. items.new.items ++ code ∷ rest.now ≡ items.old.items ++ inserted code set.now) }
+/// Puts the numbers of a row up to `number` after `items`, and gives those above it.
+fn push_below<'a>(
+    items: &mut Vec<i32>,
+    set: &'a [i32],
+    number: i32,
+) -> Result<&'a [i32], AllocError>
+    ensures { IfOk result (λ rest. items.new.items ++ number ∷ rest.now ≡ items.old.items ++ inserted number set.now) }
 {
     let mut rest = set;
-    while let [c, tail @ ..] = rest {
-        if *c > code {
+    while let [n, tail @ ..] = rest {
+        if *n > number {
             return Ok(rest);
         }
-        items.push(*c)?;
+        items.push(*n)?;
         rest = tail;
     }
     Ok(rest)
 }
 
-/// An ascending set with one more code.
-fn with_code(alloc: Global, set: &[i32], code: i32) -> Result<List<i32>, AllocError>
-    ensures { IfOk result (λ xs. xs ≡ inserted code set.now) }
+/// An ascending row with one more number.
+fn with_number(alloc: Global, set: &[i32], number: i32) -> Result<List<i32>, AllocError>
+    ensures { IfOk result (λ xs. xs ≡ inserted number set.now) }
 {
     let mut items = Vec::new(alloc);
-    let rest = push_below(&mut items, set, code)?;
-    items.push(code)?;
+    let rest = push_below(&mut items, set, number)?;
+    items.push(number)?;
     items.extend_from_slice(rest)?;
     Ok(List::from_vec(items))
-}
-
-/// A code that 32 bits hold.
-fn narrow(code: i128) -> Option<i32>
-    ensures { IfSome result (λ c. (c ≡ code) × FitsSigned w32 code) }
-{
-    if code >= -2147483648 && code <= 2147483647 {
-        Some(code as i32)
-    } else {
-        None
-    }
 }
 
 /// Puts a code into the set that lacks it. A code that 32 bits do not hold has no room in memory.
 fn add(alloc: Global, sets: &mut Vec<List<i32>>, missing: Missing) -> Result<(), AllocError>
     ensures { OnOk result (IsAdded sets.old.items sets.new.items missing.to missing.code) }
 {
-    match narrow(missing.code) {
+    match number_of(missing.code) {
         None => Err(AllocError),
-        Some(code) => {
+        Some(number) => {
             if missing.to >= sets.len() as u128 {
                 return Err(AllocError);
             }
             let place = missing.to as usize;
-            let set = with_code(alloc, sets[place].as_slice(), code)?;
+            let set = with_number(alloc, sets[place].as_slice(), number)?;
             sets[place] = set;
             Ok(())
         }

@@ -1,24 +1,19 @@
 //! What an alternative of ensures says of the codes after a call.
-ghost use Rattle.std.specs.Prelude.{◌≡◌, ◌||◌};
+ghost use Rattle.std.specs.Prelude.{◌≡◌};
 ghost use Rattle.std.specs.List.{list_any};
 ghost use Rattle.cv_ppts.specs.Keys.{setting};
-ghost use Rattle.cv_ppts.specs.Outcomes.{after_at as after_at_of, changed_key as changed_key_in, code_after as code_after_in, first_gift as first_gift_of, gift as gift_in, gift_to as gift_to_of, is_changed_cell as is_changed_cell_in, is_false_atom as is_false_atom_in, is_false_maybe as is_false_maybe_in, is_false_part as is_false_part_in, is_false_term as is_false_term_in, is_not_apart as is_not_apart_of, is_one_object as is_one_object_of, is_other_base as is_other_base_of, is_unequal as is_unequal_of, is_wrong_null as is_wrong_null_of, key_of as key_of_term, known as known_in, known_at as known_at_of, lacks_object as lacks_object_of, as_old as as_old_of, settled as settled_of};
+ghost use Rattle.cv_ppts.specs.Named.{seen_path};
+ghost use Rattle.cv_ppts.specs.Outcomes as spec;
 ghost use Rattle.cv_ppts.specs.Picked.{choice_of, gift_at as gift_at_in};
 ghost use Rattle.cv_points.specs.Holders.{gives_pointer as pointer_result};
 
-use crate::picks::{Codes, cell_of, code_of, code_of_name, is_modified, object_in};
+use crate::code::Code;
+use crate::path::{Path, is_before, path_of};
+use crate::picks::{Codes, cell_of, code_before, code_of_name, is_modified};
 use crate::places::content_place;
 use crate::setting::Scope;
-use cv_core::{Atom, LinPart, Proc, PtrTerm, ResultKind, Term};
-
-/// The code of a pointer after a call.
-#[derive(Clone, Copy, PartialEq, Eq, Debug)]
-pub(crate) enum Code {
-    /// A code that stood before.
-    Old(i128),
-    /// That of the new object.
-    New,
-}
+use crate::status::{ReadCodes, Status, status_of};
+use cv_core::{Atom, Proc, PtrTerm, ResultKind};
 
 /// A code that an atom gives to a pointer that the call changes.
 #[derive(Clone, Copy, PartialEq, Eq, Debug)]
@@ -59,20 +54,20 @@ fn gives_pointer(kind: ResultKind) -> bool
     matches!(kind, ResultKind::Ptr)
 }
 
-fn is_changed_cell(s: &Scope, g: &Proc, k: &Codes, target: u128) -> bool
-    ensures { result ≡ is_changed_cell_in (setting s.entry.now) g.now (choice_of (setting s.entry.now) k.entry.now) target }
+fn is_changed_cell(s: &Scope, g: &Proc, k: &Codes, target: u32) -> bool
+    ensures { result ≡ spec.is_changed_cell (setting s.entry.now) g.now (choice_of (setting s.entry.now) k.entry.now) target }
 {
     is_modified(s, g, k, target) && content_place(s, target).is_some()
 }
 
-fn changed_key(s: &Scope, g: &Proc, k: &Codes, cell: Option<u128>) -> Option<u128>
-    ensures { result ≡ changed_key_in (setting s.entry.now) g.now (choice_of (setting s.entry.now) k.entry.now) cell }
+fn changed_key(s: &Scope, g: &Proc, k: &Codes, cell: Option<u32>) -> Option<u128>
+    ensures { result ≡ spec.changed_key (setting s.entry.now) g.now (choice_of (setting s.entry.now) k.entry.now) cell }
 {
     match cell {
         None => None,
         Some(target) => {
             if is_changed_cell(s, g, k, target) {
-                Some(target)
+                Some(u128::from(target))
             } else {
                 None
             }
@@ -81,53 +76,64 @@ fn changed_key(s: &Scope, g: &Proc, k: &Codes, cell: Option<u128>) -> Option<u12
 }
 
 /// The key of a pointer that the call changes.
-fn key_of(s: &Scope, g: &Proc, k: &Codes, t: &PtrTerm) -> Option<u128>
-    ensures { result ≡ key_of_term (setting s.entry.now) g.now (choice_of (setting s.entry.now) k.entry.now) t.now }
+fn key_of(s: &Scope, g: &Proc, k: &Codes, path: Path) -> Option<u128>
+    ensures { result ≡ spec.key_of (setting s.entry.now) g.now (choice_of (setting s.entry.now) k.entry.now) (seen_path path.entry) }
 {
-    match t {
-        PtrTerm::Answer => {
+    match path {
+        Path::Answered => {
             if gives_pointer(g.answer) {
                 Some(0)
             } else {
                 None
             }
         }
-        PtrTerm::Pre(_) => None,
-        PtrTerm::Name(_) => changed_key(s, g, k, cell_of(s, g, k, t)),
-        PtrTerm::Star(_) => changed_key(s, g, k, cell_of(s, g, k, t)),
+        Path::Named(_) => changed_key(s, g, k, cell_of(s, g, k, path)),
+        Path::Starred(_) => changed_key(s, g, k, cell_of(s, g, k, path)),
+    }
+}
+
+/// The key of a pointer of an atom; None under `pre`.
+fn changed_of(s: &Scope, g: &Proc, k: &Codes, t: &PtrTerm) -> Option<u128>
+    ensures { result ≡ spec.changed_of (setting s.entry.now) g.now (choice_of (setting s.entry.now) k.entry.now) t.now }
+{
+    if is_before(t) {
+        None
+    } else {
+        key_of(s, g, k, path_of(t))
     }
 }
 
 // ---- what an atom gives
 
-fn as_old(code: Option<i128>) -> Option<Code>
-    ensures { result ≡ as_old_of code }
-{
-    match code {
-        None => None,
-        Some(code) => Some(Code::Old(code)),
-    }
-}
-
-fn known_at(gifts: &Gifts, key: Option<u128>, code: Option<i128>) -> Option<Code>
-    ensures { result ≡ known_at_of (gift_at_in gifts.now) key code }
+fn known_at(gifts: &Gifts, key: Option<u128>, code: Option<Code>) -> Option<Code>
+    ensures { result ≡ spec.known_at (gift_at_in gifts.now) key code }
 {
     match key {
         Some(key) => gift_at(gifts, key),
-        None => as_old(code),
+        None => code,
+    }
+}
+
+fn known(s: &Scope, g: &Proc, k: &Codes, gifts: &Gifts, before: bool, path: Path) -> Option<Code>
+    ensures { result ≡ spec.known (setting s.entry.now) g.now (choice_of (setting s.entry.now) k.entry.now) (gift_at_in gifts.now) before (seen_path path.entry) }
+{
+    if before {
+        code_before(s, g, k, path)
+    } else {
+        known_at(gifts, key_of(s, g, k, path), code_before(s, g, k, path))
     }
 }
 
 /// The code of a pointer that is known by then.
-fn known(s: &Scope, g: &Proc, k: &Codes, gifts: &Gifts, t: &PtrTerm) -> Option<Code>
-    ensures { result ≡ known_in (setting s.entry.now) g.now (choice_of (setting s.entry.now) k.entry.now) (gift_at_in gifts.now) t.now }
+fn known_of(s: &Scope, g: &Proc, k: &Codes, gifts: &Gifts, t: &PtrTerm) -> Option<Code>
+    ensures { result ≡ spec.known_of (setting s.entry.now) g.now (choice_of (setting s.entry.now) k.entry.now) (gift_at_in gifts.now) t.now }
 {
-    known_at(gifts, key_of(s, g, k, t), code_of(s, g, k, t))
+    known(s, g, k, gifts, is_before(t), path_of(t))
 }
 
 /// A code goes to a changed pointer that has none yet.
 fn gift_to(gifts: &Gifts, key: Option<u128>, code: Option<Code>) -> Option<Gift>
-    ensures { result ≡ gift_to_of (gift_at_in gifts.now) key code }
+    ensures { result ≡ spec.gift_to (gift_at_in gifts.now) key code }
 {
     match key {
         None => None,
@@ -144,7 +150,7 @@ fn gift_to(gifts: &Gifts, key: Option<u128>, code: Option<Code>) -> Option<Gift>
 }
 
 fn first_gift(one: Option<Gift>, other: Option<Gift>) -> Option<Gift>
-    ensures { result ≡ first_gift_of one other }
+    ensures { result ≡ spec.first_gift one other }
 {
     match one {
         Some(gift) => Some(gift),
@@ -154,20 +160,20 @@ fn first_gift(one: Option<Gift>, other: Option<Gift>) -> Option<Gift>
 
 /// The code that an atom gives.
 pub(crate) fn gift_by(s: &Scope, g: &Proc, k: &Codes, gifts: &Gifts, atom: &Atom) -> Option<Gift>
-    ensures { result ≡ gift_in (setting s.entry.now) g.now (choice_of (setting s.entry.now) k.entry.now) (gift_at_in gifts.now) atom.now }
+    ensures { result ≡ spec.gift (setting s.entry.now) g.now (choice_of (setting s.entry.now) k.entry.now) (gift_at_in gifts.now) atom.now }
 {
     match atom {
         Atom::Null { ptr, equal } => {
             if *equal {
-                gift_to(gifts, key_of(s, g, k, ptr), Some(Code::Old(0)))
+                gift_to(gifts, changed_of(s, g, k, ptr), Some(Code::Null))
             } else {
                 None
             }
         }
-        Atom::Fresh(t) => gift_to(gifts, key_of(s, g, k, t), Some(Code::New)),
+        Atom::Fresh(t) => gift_to(gifts, changed_of(s, g, k, t), Some(Code::New)),
         Atom::SameBase(t, u) => first_gift(
-            gift_to(gifts, key_of(s, g, k, t), known(s, g, k, gifts, u)),
-            gift_to(gifts, key_of(s, g, k, u), known(s, g, k, gifts, t)),
+            gift_to(gifts, changed_of(s, g, k, t), known_of(s, g, k, gifts, u)),
+            gift_to(gifts, changed_of(s, g, k, u), known_of(s, g, k, gifts, t)),
         ),
         Atom::Nullt(_) => None,
         Atom::Clear(_) => None,
@@ -176,186 +182,105 @@ pub(crate) fn gift_by(s: &Scope, g: &Proc, k: &Codes, gifts: &Gifts, atom: &Atom
     }
 }
 
-/// A changed pointer without a code has -1.
+/// A changed pointer without a code has the unknown one.
 pub(crate) fn settled(code: Option<Code>) -> Code
-    ensures { result ≡ settled_of code }
+    ensures { result ≡ spec.settled code }
 {
     match code {
-        None => Code::Old(-1),
+        None => Code::Unknown,
         Some(code) => code,
     }
 }
 
 // ---- false by the codes
 
-fn after_at(gifts: &Gifts, key: Option<u128>, code: Option<i128>) -> Option<Code>
-    ensures { result ≡ after_at_of (gift_at_in gifts.now) key code }
+fn after_at(gifts: &Gifts, key: Option<u128>, code: Option<Code>) -> Option<Code>
+    ensures { result ≡ spec.after_at (gift_at_in gifts.now) key code }
 {
     match key {
         Some(key) => Some(settled(gift_at(gifts, key))),
-        None => as_old(code),
+        None => code,
     }
 }
 
-/// The code of a pointer after the call, or before it.
+/// The codes under which an alternative is read after the call.
+#[derive(Drop)]
+pub(crate) struct After<'a> {
+    s: &'a Scope<'a>,
+    g: &'a Proc,
+    k: &'a Codes<'a>,
+    gifts: &'a Gifts<'a>,
+}
+
+fn number_there(code: Code) -> Status
+    ensures { result ≡ spec.number_there code }
+{
+    match code {
+        Code::Unknown => Status::Unknown,
+        Code::Null => Status::False,
+        Code::Target(_) => Status::Known,
+        Code::New => Status::Known,
+    }
+}
+
+fn number_after(s: &Scope, g: &Proc, k: &Codes, path: Path) -> Status
+    ensures { result ≡ spec.number_after (setting s.entry.now) g.now (choice_of (setting s.entry.now) k.entry.now) (seen_path path.entry) }
+{
+    match path {
+        Path::Starred(i) => number_there(code_of_name(s, g, k, i)),
+        Path::Named(_) => Status::Known,
+        Path::Answered => Status::Known,
+    }
+}
+
 fn code_after(
     s: &Scope,
     g: &Proc,
     k: &Codes,
     gifts: &Gifts,
     before: bool,
-    t: &PtrTerm,
+    path: Path,
 ) -> Option<Code>
-    ensures { result ≡ code_after_in (setting s.entry.now) g.now (choice_of (setting s.entry.now) k.entry.now) (gift_at_in gifts.now) before t.now }
+    ensures { result ≡ spec.code_after (setting s.entry.now) g.now (choice_of (setting s.entry.now) k.entry.now) (gift_at_in gifts.now) before (seen_path path.entry) }
 {
     if before {
-        as_old(code_of(s, g, k, t))
+        code_before(s, g, k, path)
     } else {
-        after_at(gifts, key_of(s, g, k, t), code_of(s, g, k, t))
+        after_at(gifts, key_of(s, g, k, path), code_before(s, g, k, path))
     }
 }
 
-fn lacks_object(code: Option<Code>) -> bool
-    ensures { result ≡ lacks_object_of code }
-{
-    match code {
-        None => true,
-        Some(code) => match code {
-            Code::Old(c) => c == 0,
-            Code::New => false,
-        },
-    }
-}
+impl<'a> ReadCodes for After<'a> {
+    ghost codes = { λ a. spec.codes_after (setting a.s.now) a.g.now (choice_of (setting a.s.now) a.k.now) (gift_at_in a.gifts.now) };
 
-fn is_wrong_null(equal: bool, code: Option<Code>) -> bool
-    ensures { result ≡ is_wrong_null_of equal code }
-{
-    match code {
-        None => true,
-        Some(code) => match code {
-            Code::Old(c) => { if equal { c > 0 } else { c == 0 } }
-            Code::New => equal,
-        },
+    fn code(&self, before: bool, path: Path) -> Option<Code> {
+        code_after(self.s, self.g, self.k, self.gifts, before, path)
     }
-}
 
-fn is_one_object(one: Code, other: Code) -> bool
-    ensures { result ≡ is_one_object_of one other }
-{
-    match one {
-        Code::New => matches!(other, Code::New),
-        Code::Old(c) => match other {
-            Code::New => false,
-            Code::Old(d) => c > 0 && c == d,
-        },
+    fn number(&self, path: Path) -> Status {
+        number_after(self.s, self.g, self.k, path)
     }
-}
 
-fn is_not_apart(one: Option<Code>, other: Option<Code>) -> bool
-    ensures { result ≡ is_not_apart_of one other }
-{
-    match one {
-        None => true,
-        Some(one) => match other {
-            None => true,
-            Some(other) => is_one_object(one, other),
-        },
+    fn dies(&self, code: Code) -> bool {
+        false
     }
-}
 
-fn is_unequal(one: Code, other: Code) -> bool
-    ensures { result ≡ is_unequal_of one other }
-{
-    match one {
-        Code::New => match other {
-            Code::New => false,
-            Code::Old(d) => d >= 0,
-        },
-        Code::Old(c) => match other {
-            Code::New => c >= 0,
-            Code::Old(d) => c >= 0 && d >= 0 && c != d,
-        },
+    fn is_made(&self, code: Code) -> bool {
+        false
     }
-}
-
-fn is_other_base(one: Option<Code>, other: Option<Code>) -> bool
-    ensures { result ≡ is_other_base_of one other }
-{
-    match one {
-        None => true,
-        Some(c) => match other {
-            None => true,
-            Some(d) => lacks_object(one) || lacks_object(other) || is_unequal(c, d),
-        },
-    }
-}
-
-fn is_false_term(s: &Scope, g: &Proc, k: &Codes, gifts: &Gifts, before: bool, t: &Term) -> bool
-    ensures { result ≡ is_false_term_in (setting s.entry.now) g.now (choice_of (setting s.entry.now) k.entry.now) (gift_at_in gifts.now) before t.now }
-{
-    match t {
-        Term::Name(_) => false,
-        Term::Star(i) => object_in(code_of_name(s, g, k, i)).is_none(),
-        Term::Answer => false,
-        Term::Pre(inner) => is_false_term(s, g, k, gifts, true, inner.get()),
-        Term::Alloc(p) => lacks_object(code_after(s, g, k, gifts, before, p)),
-        Term::Offset(p) => lacks_object(code_after(s, g, k, gifts, before, p)),
-        Term::Strlen(p) => lacks_object(code_after(s, g, k, gifts, before, p)),
-    }
-}
-
-fn is_false_part(s: &Scope, g: &Proc, k: &Codes, gifts: &Gifts, part: &LinPart) -> bool
-    ensures { result ≡ is_false_part_in (setting s.entry.now) g.now (choice_of (setting s.entry.now) k.entry.now) (gift_at_in gifts.now) part.now }
-{
-    match &part.term {
-        None => false,
-        Some(t) => is_false_term(s, g, k, gifts, false, t),
-    }
-}
-
-fn has_false_part(s: &Scope, g: &Proc, k: &Codes, gifts: &Gifts, parts: &[LinPart]) -> bool
-    ensures { result ≡ list_any (is_false_part_in (setting s.entry.now) g.now (choice_of (setting s.entry.now) k.entry.now) (gift_at_in gifts.now)) parts.now }
-{
-    let mut rest = parts;
-    while let [part, tail @ ..] = rest {
-        if is_false_part(s, g, k, gifts, part) {
-            return true;
-        }
-        rest = tail;
-    }
-    false
 }
 
 /// Whether an atom is false by the codes after the call.
 fn is_false_atom(s: &Scope, g: &Proc, k: &Codes, gifts: &Gifts, atom: &Atom) -> bool
-    ensures { result ≡ is_false_atom_in (setting s.entry.now) g.now (choice_of (setting s.entry.now) k.entry.now) (gift_at_in gifts.now) atom.now }
+    ensures { result ≡ spec.is_false_atom (setting s.entry.now) g.now (choice_of (setting s.entry.now) k.entry.now) (gift_at_in gifts.now) atom.now }
 {
-    match atom {
-        Atom::Null { ptr, equal } => {
-            is_wrong_null(*equal, code_after(s, g, k, gifts, false, ptr))
-        }
-        Atom::Nullt(t) => lacks_object(code_after(s, g, k, gifts, false, t)),
-        Atom::Clear(t) => lacks_object(code_after(s, g, k, gifts, false, t)),
-        Atom::Fresh(t) => code_after(s, g, k, gifts, false, t).is_none(),
-        Atom::Apart(t, u) => is_not_apart(
-            code_after(s, g, k, gifts, false, t),
-            code_after(s, g, k, gifts, false, u),
-        ),
-        Atom::SameBase(t, u) => is_other_base(
-            code_after(s, g, k, gifts, false, t),
-            code_after(s, g, k, gifts, false, u),
-        ),
-        Atom::Compare { left, right, .. } => {
-            let first = has_false_part(s, g, k, gifts, left.as_slice());
-            let second = has_false_part(s, g, k, gifts, right.as_slice());
-            first || second
-        }
-    }
+    let after = After { s, g, k, gifts };
+    matches!(status_of(&after, false, atom), Status::False)
 }
 
 /// Whether an atom of an alternative is false by the codes after the call.
 pub(crate) fn has_false_atom(s: &Scope, g: &Proc, k: &Codes, gifts: &Gifts, atoms: &[Atom]) -> bool
-    ensures { result ≡ list_any (is_false_atom_in (setting s.entry.now) g.now (choice_of (setting s.entry.now) k.entry.now) (gift_at_in gifts.now)) atoms.now }
+    ensures { result ≡ list_any (spec.is_false_atom (setting s.entry.now) g.now (choice_of (setting s.entry.now) k.entry.now) (gift_at_in gifts.now)) atoms.now }
 {
     let mut rest = atoms;
     while let [atom, tail @ ..] = rest {

@@ -1,14 +1,15 @@
 //! The places of the sets of codes, and the targets of statements.
-ghost use Rattle.std.specs.Prelude.{◌≡◌, ◌+◌, ◌<◌, ◌≤◌, ◌^◌, IfOk, bytes_eq, codes as text, count_by, filter, find, is_some, length, map, option_copied, pos, slice_index_or, take};
+ghost use Rattle.std.specs.Prelude.{◌≡◌, ◌+◌, ◌<◌, ◌≤◌, ◌^◌, IfOk, bytes_eq, codes as text, count_by, filter, find, is_some, length, map, option_copied, slice_index_or, suc, take};
 ghost use Rattle.std.specs.List.{list_any};
 ghost use Rattle.cv_core.specs.Meant.{built_in as built_in_of, called as called_of};
 ghost use Rattle.cv_core.specs.Names.{is_object as object, is_pointer_cell as pointer_cell, is_pointer_local as pointer_local, locals_of as locals_in, objects_of, place_of, stmts_of as stmts_in};
 ghost use Rattle.cv_points.specs.Holders.{pointer_count as pointer_count_of, variable_number as variable_number_of};
 ghost use Rattle.cv_ppts.specs.Keys.{setting};
 ghost use Rattle.cv_ppts.specs.Plain.{content_in as content_in_of};
-ghost use Rattle.cv_ppts.specs.Setting.{AreContents, allocates as allocates_of, block_content as block_content_of, callee as callee_in, cell_number as cell_number_of, content_place as content_place_of, gives_fresh as gives_fresh_of, is_fresh as is_fresh_of, new_target as new_target_of, object_cells, object_content as object_content_of, set_count as set_count_of, target_of_name as target_of_name_in};
+ghost use Rattle.cv_ppts.specs.Setting.{AreContents, allocates as allocates_of, block_content as block_content_of, block_count as block_count_of, callee as callee_in, cell_number as cell_number_of, content_place as content_place_of, gives_fresh as gives_fresh_of, is_fresh as is_fresh_of, new_target as new_target_of, object_cells, object_content as object_content_of, set_count as set_count_of, target_of_name as target_of_name_in};
 
 use crate::allowed::{formal_count, formal_number};
+use crate::code::Code;
 use crate::named::{global_number, literal_named};
 use crate::scope::{block_count, cell_blocks, global_code, is_cell_block, literal_code};
 use crate::setting::Scope;
@@ -73,7 +74,7 @@ pub(crate) fn variable_number(f: &Proc, name: &Bytes) -> Option<u128>
 }
 
 /// The number of the pointer cell at a place of the objects among the pointer cells.
-fn cell_number(locals: &[Local], place: u128) -> Option<usize>
+fn cell_number(locals: &[Local], place: u32) -> Option<usize>
     ensures { result ≡ cell_number_of (map (λ l. pointer_cell l.body) (filter (λ l. object l.body) locals.now)) place }
 {
     let mut skip = place;
@@ -102,7 +103,7 @@ fn block_content(s: &Scope, block: u32) -> Option<u128>
     Some(pointer_count(s.f) + u128::from(cell_blocks(s, block - 1)))
 }
 
-fn object_content(s: &Scope, place: u128) -> Option<u128>
+fn object_content(s: &Scope, place: u32) -> Option<u128>
     ensures { result ≡ object_content_of (setting s.entry.now) place }
 {
     match cell_number(locals_of(s.f), place) {
@@ -114,12 +115,12 @@ fn object_content(s: &Scope, place: u128) -> Option<u128>
 }
 
 /// The place of the set of what a target holds, by a walk over the names that stand for blocks.
-fn searched_content(s: &Scope, target: u128) -> Option<u128>
+fn searched_content(s: &Scope, target: u32) -> Option<u128>
     ensures { result ≡ content_place_of (setting s.entry.now) target }
 {
-    let blocks = u128::from(block_count(s));
+    let blocks = block_count(s);
     if target <= blocks {
-        block_content(s, target as u32)
+        block_content(s, target)
     } else {
         object_content(s, target - blocks - 1)
     }
@@ -134,10 +135,10 @@ fn known_content(s: &Scope, target: usize) -> Option<u128>
 }
 
 /// The place of the set of what a target holds; None where it is no pointer cell.
-pub(crate) fn content_place(s: &Scope, target: u128) -> Option<u128>
+pub(crate) fn content_place(s: &Scope, target: u32) -> Option<u128>
     ensures { result ≡ content_place_of (setting s.entry.now) target }
 {
-    if target < s.contents.len() as u128 {
+    if (target as usize) < s.contents.len() {
         known_content(s, target as usize)
     } else {
         searched_content(s, target)
@@ -145,8 +146,8 @@ pub(crate) fn content_place(s: &Scope, target: u128) -> Option<u128>
 }
 
 /// Of how many targets the places are listed: of all in a procedure within the limits.
-fn listed_targets(s: &Scope) -> usize {
-    new_target(s, stmts_of(s.f).len()).min(4096) as usize
+fn listed_targets(s: &Scope) -> u32 {
+    new_target(s, stmts_of(s.f).len()).min(4096)
 }
 
 /// The places of the sets of what the first targets hold.
@@ -155,19 +156,20 @@ pub(crate) fn all_contents(alloc: Global, s: &Scope) -> Result<Vec<Option<u128>>
 {
     let mut contents = Vec::new(alloc);
     for target in 0..listed_targets(s) {
-        contents.push(searched_content(s, target as u128))?;
+        contents.push(searched_content(s, target))?;
     }
     Ok(contents)
 }
 
 /// The place of the set of what the target of a code holds.
-pub(crate) fn content_in(s: &Scope, code: i32) -> Option<u128>
+pub(crate) fn content_in(s: &Scope, code: Code) -> Option<u128>
     ensures { result ≡ content_in_of (setting s.entry.now) code }
 {
-    if code < 0 {
-        None
-    } else {
-        content_place(s, code as u128)
+    match code {
+        Code::Target(target) => content_place(s, target),
+        Code::Unknown => None,
+        Code::Null => None,
+        Code::New => None,
     }
 }
 
@@ -180,26 +182,25 @@ pub(crate) fn set_count(s: &Scope) -> u128
         + cell_count(locals_of(s.f)) as u128
 }
 
-/// The target whose address a statement takes by name.
-pub(crate) fn target_of_name(s: &Scope, name: &Bytes) -> u128
-    ensures value { result ≡ target_of_name_in (setting s.entry.now) name.now }
-    ensures small { result < 2 ^ 66 }
+/// The target of a local object.
+fn local_target(s: &Scope, place: usize) -> u32
+    requires { place < length (objects_of s.now.f.now) }
+    ensures { result ≡ block_count_of (setting s.entry.now) + suc place }
 {
-    match object_place(s.f, name.as_slice()) {
-        Some(number) => u128::from(block_count(s)) + number as u128 + 1,
-        None => match global_number(s.p, name) {
-            Some(number) => u128::from(global_code(s, Some(number))),
-            None => u128::from(literal_code(s, literal_named(s.p, name))),
-        },
-    }
+    block_count(s) + place as u32 + 1
 }
 
-/// The code of a target.
-pub(crate) fn as_code(target: u128) -> i128
-    requires { target < 2 ^ 66 }
-    ensures { result ≡ pos target }
+/// The target whose address a statement takes by name.
+pub(crate) fn target_of_name(s: &Scope, name: &Bytes) -> u32
+    ensures { result ≡ target_of_name_in (setting s.entry.now) name.now }
 {
-    target as i128
+    match object_place(s.f, name.as_slice()) {
+        Some(place) => local_target(s, place),
+        None => match global_number(s.p, name) {
+            Some(number) => global_code(s, Some(number)),
+            None => literal_code(s, literal_named(s.p, name)),
+        },
+    }
 }
 
 // ---- statements that allocate
@@ -255,7 +256,8 @@ pub(crate) fn allocates(p: &Program, form: &Form) -> bool
 
 /// How many of some statements allocate.
 fn allocating(p: &Program, stmts: &[Stmt]) -> usize
-    ensures { result ≡ count_by (λ x. allocates_of p.now x.form) stmts.now }
+    ensures value { result ≡ count_by (λ x. allocates_of p.now x.form) stmts.now }
+    ensures few { result ≤ length stmts.now }
 {
     let mut count: usize = 0;
     let mut rest = stmts;
@@ -269,13 +271,12 @@ fn allocating(p: &Program, stmts: &[Stmt]) -> usize
 }
 
 /// The target of what the statement of a number allocates.
-pub(crate) fn new_target(s: &Scope, statement: usize) -> u128
+pub(crate) fn new_target(s: &Scope, statement: usize) -> u32
     requires { statement ≤ length (stmts_in s.now.f.now.body) }
-    ensures value { result ≡ new_target_of (setting s.entry.now) statement }
-    ensures small { result < 2 ^ 66 }
+    ensures { result ≡ new_target_of (setting s.entry.now) statement }
 {
-    u128::from(block_count(s))
-        + object_count(s.f) as u128
-        + allocating(s.p, &stmts_of(s.f)[..statement]) as u128
+    block_count(s)
+        + object_count(s.f) as u32
+        + allocating(s.p, &stmts_of(s.f)[..statement]) as u32
         + 1
 }

@@ -1,8 +1,9 @@
 //! What the statements of a procedure ask for, with their places and targets looked up once.
-ghost use Rattle.std.specs.Prelude.{All, ◌≡◌, ◌+◌, ◌<◌, ◌≤◌, ◌^◌, IfOk, MatchOption, None as Nothing, if◌then◌else◌, length, map, slice_index_or, suc};
+ghost use Rattle.std.specs.Prelude.{◌≡◌, ◌<◌, IfOk, MatchOption, None as Nothing, if◌then◌else◌, length, map, slice_index_or, suc};
 ghost use Rattle.cv_core.specs.Names.{stmts_of as stmts_in};
 ghost use Rattle.cv_ppts.specs.Keys.{setting};
 ghost use Rattle.cv_ppts.specs.Lacking.{Lacks};
+ghost use Rattle.cv_ppts.specs.Numbers.{codes_of};
 ghost use Rattle.cv_ppts.specs.Plain.{plain_rule as plain_rule_of};
 ghost use Rattle.cv_ppts.specs.Planned.{IsPlan, later_targets};
 ghost use Rattle.cv_ppts.specs.Setting.{new_target as new_target_of};
@@ -19,7 +20,7 @@ use std::alloc::{AllocError, Global};
 #[derive(Drop)]
 pub(crate) struct Plan<'a> {
     pub rules: &'a [Option<Rule>],
-    pub targets: &'a [u128],
+    pub targets: &'a [u32],
 }
 
 /// The rules of the statements that aren't calls.
@@ -36,24 +37,21 @@ pub(crate) fn all_rules(alloc: Global, s: &Scope) -> Result<Vec<Option<Rule>>, A
 }
 
 /// The target after that of a statement.
-fn next_target(target: u128, new: bool) -> u128
-    requires { target < 2 ^ 67 }
+fn next_target(target: u32, new: bool) -> u32
+    requires { target < 4294967295 }
     ensures { result ≡ (if new then suc target else target) }
 {
     if new { target + 1 } else { target }
 }
 
-/// The targets of what the statements allocate; one that 32 bits do not hold has no room in memory.
-pub(crate) fn all_targets(alloc: Global, s: &Scope) -> Result<Vec<u128>, AllocError>
-    ensures { IfOk result (λ v. (v.items ≡ later_targets s.entry.now.p.now (new_target_of (setting s.entry.now) 0) (stmts_in s.entry.now.f.now.body)) × All (λ t. t < 2 ^ 66) v.items) }
+/// The targets of what the statements allocate.
+pub(crate) fn all_targets(alloc: Global, s: &Scope) -> Result<Vec<u32>, AllocError>
+    ensures { IfOk result (λ v. v.items ≡ later_targets s.entry.now.p.now (new_target_of (setting s.entry.now) 0) (stmts_in s.entry.now.f.now.body)) }
 {
     let mut targets = Vec::new(alloc);
     let mut target = new_target(s, 0);
     let mut rest = stmts_of(s.f);
     while let [statement, tail @ ..] = rest {
-        if target > 4294967295 {
-            return Err(AllocError);
-        }
         targets.push(target)?;
         target = next_target(target, allocates(s.p, &statement.form));
         rest = tail;
@@ -70,7 +68,7 @@ fn rule_at(rules: &[Option<Rule>], statement: usize) -> Option<Rule>
     }
 }
 
-fn target_at(targets: &[u128], statement: usize) -> u128
+fn target_at(targets: &[u32], statement: usize) -> u32
     ensures { result ≡ slice_index_or targets.now statement 0 }
 {
     match targets.get(statement) {
@@ -87,7 +85,7 @@ pub(crate) fn missing_by_plan(
     statement: usize,
 ) -> Option<Missing>
     requires { IsPlan (setting s.now) plan.now.rules.now plan.now.targets.now }
-    ensures { MatchOption result (HoldsAt (setting s.entry.now) sets.now statement) (λ m. Lacks sets.now (λ R. HoldsAt (setting s.entry.now) R statement) m.to m.code) }
+    ensures { MatchOption result (HoldsAt (setting s.entry.now) (codes_of sets.now) statement) (λ m. Lacks (codes_of sets.now) (λ R. HoldsAt (setting s.entry.now) R statement) m.to m.code) }
 {
     match statement_at(s.f, statement) {
         None => None,

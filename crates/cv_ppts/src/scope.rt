@@ -1,10 +1,10 @@
 //! The entities and blocks of a case.
 ghost use Rattle.cv_core.specs.Names.{is_pointer_kind as pointer_kind};
-ghost use Rattle.std.specs.Prelude.{◌≡◌, ◌+◌, ◌<◌, ◌≤◌, MatchBool, None as Nothing, Some, drop, filter, length, map, nat_eq, position, slice_index_or};
+ghost use Rattle.std.specs.Prelude.{[], ◌≡◌, ◌+◌, ◌<◌, ◌≤◌, MatchBool, None as Nothing, Some, drop, filter, length, map, nat_eq, position, slice_index_or};
 ghost use Rattle.cv_points.specs.Holders.{pointer_formals};
 ghost use Rattle.cv_ppts.specs.Entities.{as_list, class_of_kind as class_of_variable, distinct as distinct_of, is_member as is_member_of, literals_of};
 ghost use Rattle.cv_ppts.specs.Keys.{keys as keys_of, later_numbers, new_number, numbers, seen_numbers, setting};
-ghost use Rattle.cv_ppts.specs.Setting.{block_class as block_class_of, block_count as block_count_of, cell_blocks as cell_blocks_of, class_or as class_or_of, class_with, first_content as first_content_of, global_code as global_code_of, global_classes, greatest as greatest_of, is_cell_block as is_cell_block_of, listed, literal_code as literal_code_of, literal_codes as literal_codes_of};
+ghost use Rattle.cv_ppts.specs.Setting.{HasRoom, block_class as block_class_of, block_count as block_count_of, cell_blocks as cell_blocks_of, class_or as class_or_of, class_with, first_content as first_content_of, global_code as global_code_of, global_classes, greatest as greatest_of, is_cell_block as is_cell_block_of, listed, literal_code as literal_code_of, literal_codes as literal_codes_of};
 
 use crate::allowed::{behind, code_behind, first, formal_count};
 use crate::blocks::same_class;
@@ -127,6 +127,7 @@ fn number_place(s: &Scope, which: Keys, number: usize) -> Option<usize>
 
 /// A case of which nothing is known beside its codes.
 fn bare_scope<'a>(p: &'a Program, f: &'a Proc, codes: &'a [u32]) -> Scope<'a>
+    requires { HasRoom (record { program = p.now; proc = f.now; codes = codes.now }) }
     ensures { setting result ≡ record { program = p.now; proc = f.now; codes = codes.now } }
 {
     Scope {
@@ -139,6 +140,7 @@ fn bare_scope<'a>(p: &'a Program, f: &'a Proc, codes: &'a [u32]) -> Scope<'a>
 }
 
 fn count_of_literals(p: &Program, f: &Proc) -> usize
+    requires { HasRoom (record { program = p.now; proc = f.now; codes = [] }) }
     ensures { result ≡ length (literals_of p.now f.now) }
 {
     number_count(&bare_scope(p, f, &[]), Keys::Literals)
@@ -146,6 +148,7 @@ fn count_of_literals(p: &Program, f: &Proc) -> usize
 
 /// A case as the statements see it, with the literals that they name counted.
 pub(crate) fn scope_of<'a>(p: &'a Program, f: &'a Proc, codes: &'a [u32]) -> Scope<'a>
+    requires { HasRoom (record { program = p.now; proc = f.now; codes = codes.now }) }
     ensures { setting result ≡ record { program = p.now; proc = f.now; codes = codes.now } }
 {
     Scope {
@@ -232,7 +235,8 @@ pub(crate) fn content_codes<'a>(s: &Scope<'a>) -> &'a [u32]
 
 // ---- blocks
 
-fn greatest(codes: &[u32]) -> u32
+/// The greatest of some codes; 0 where there is none.
+pub(crate) fn greatest(codes: &[u32]) -> u32
     ensures { result ≡ greatest_of codes.now }
 {
     let mut most: u32 = 0;

@@ -5,13 +5,11 @@ ghost use Rattle.cv_points.specs.Growing.{place_at};
 ghost use Rattle.cv_ppts.specs.Allowed.{is_allowed as is_allowed_in};
 ghost use Rattle.cv_ppts.specs.Cases.{scene_of};
 ghost use Rattle.cv_ppts.specs.Entities.{content_entities as content_entities_of, content_entity as content_entity_of, held as held_in, held_at as held_at_place};
-ghost use Rattle.cv_ppts.specs.Lost.{is_lost as is_lost_in};
 ghost use Rattle.cv_ppts.specs.Listed.{IsFound, IsSearch, code_limit as code_limit_of, content_lists, named_lists};
 
 use crate::allowed::{View, is_allowed};
 use crate::blocks::{after_code, same_class};
 use crate::entities::{Block, Class, Entity};
-use crate::lost::is_lost;
 use crate::named::set_at;
 use cv_core::{List, Proc, Program};
 use std::alloc::{AllocError, Global};
@@ -113,30 +111,11 @@ fn with_code(alloc: Global, done: &[u32], code: usize) -> Result<Vec<u32>, Alloc
     Ok(codes)
 }
 
-/// Puts the codes of all entities behind the cases that were found, where the contract allows them.
-fn put_case(
-    alloc: Global,
-    s: &Search,
-    named: usize,
-    blocks: &[Block],
-    done: &[u32],
-    found: &mut Vec<List<u32>>,
-) -> Result<bool, AllocError>
-    requires looked { IsSearch s.now }
+/// Puts the codes of all entities behind the cases that were found.
+fn put_case(alloc: Global, done: &[u32], found: &mut Vec<List<u32>>) -> Result<bool, AllocError>
     requires few { length found.old.items ≤ 64 }
-    ensures { IfOk result (λ all. IsFound found.old.items found.new.items (content_lists s.entry.now.p.now s.entry.now.f.now named [] blocks.now done.now) all) }
+    ensures { IfOk result (λ all. IsFound found.old.items found.new.items (done.now ∷ []) all) }
 {
-    let view = View {
-        p: s.p,
-        f: s.f,
-        listed: s.listed,
-        named,
-        blocks,
-        codes: done,
-    };
-    if !is_allowed(&view) {
-        return Ok(true);
-    }
     if found.len() >= LIMIT {
         return Ok(false);
     }
@@ -144,12 +123,12 @@ fn put_case(
     Ok(true)
 }
 
-/// Whether the contract allows no codes that go on from these.
-fn goes_nowhere(s: &Search, named: usize, blocks: &[Block], done: &[u32]) -> bool
+/// Whether the contract allows the codes that there are. Where it doesn't, it allows none that go on from these.
+fn allows(s: &Search, named: usize, blocks: &[Block], done: &[u32]) -> bool
     requires { IsSearch s.now }
-    ensures { result ≡ is_lost_in (scene_of s.entry.now.p.now s.entry.now.f.now blocks.now done.now named) }
+    ensures { result ≡ is_allowed_in (scene_of s.entry.now.p.now s.entry.now.f.now blocks.now done.now named) }
 {
-    is_lost(&View {
+    is_allowed(&View {
         p: s.p,
         f: s.f,
         listed: s.listed,
@@ -184,11 +163,11 @@ fn find_contents(
     requires few { length found.old.items ≤ 64 }
     ensures { IfOk result (λ all. IsFound found.old.items found.new.items (content_lists s.entry.now.p.now s.entry.now.f.now named entities.now blocks.now done.now) all) }
 {
-    if goes_nowhere(s, named, blocks, done) {
+    if !allows(s, named, blocks, done) {
         return Ok(true);
     }
     let [entity, more @ ..] = entities else {
-        return put_case(alloc, s, named, blocks, done, found);
+        return put_case(alloc, done, found);
     };
     for code in 0..code_limit(blocks)? {
         match after_code(alloc, blocks, entity, code)? {
@@ -225,7 +204,7 @@ pub(crate) fn find_named(
     requires few { length found.old.items ≤ 64 }
     ensures { IfOk result (λ all. IsFound found.old.items found.new.items (named_lists s.entry.now.p.now s.entry.now.sets.now s.entry.now.f.now entities.now blocks.now done.now) all) }
 {
-    if goes_nowhere(s, done.len(), blocks, done) {
+    if !allows(s, done.len(), blocks, done) {
         return Ok(true);
     }
     let [entity, more @ ..] = entities else {

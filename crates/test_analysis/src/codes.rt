@@ -2,7 +2,7 @@
 
 use crate::programs::program;
 use cv_core::{List, Program};
-use cv_ppts::{Case, Targets, targets, targets_closed};
+use cv_ppts::{Case, Targets, has_room, targets, targets_closed};
 use std::alloc::{AllocError, Global};
 use std::test::Fail;
 
@@ -12,11 +12,17 @@ fn case(alloc: Global, codes: &[u32]) -> Result<Case, AllocError> {
 }
 
 fn targets_of(alloc: Global, p: &Program, case: &Case) -> Result<Targets, Fail> {
+    if !has_room(p, 0, case) {
+        return Err(Fail::from("too many targets"));
+    }
     Ok(targets(alloc, p, 0, case)?)
 }
 
-fn are_closed(p: &Program, case: &Case, found: &Targets) -> bool {
-    targets_closed(p, 0, case, found)
+fn are_closed(p: &Program, case: &Case, found: &Targets) -> Result<bool, Fail> {
+    if !has_room(p, 0, case) {
+        return Err(Fail::from("too many targets"));
+    }
+    Ok(targets_closed(p, 0, case, found))
 }
 
 /// w points to a cell whose content is p; q gets what stood there and null.
@@ -45,8 +51,17 @@ const RESULT_DROPPED: &str = "literal L { };
     { ptr q; 1: q = p; 1: call f(q); 1: return null; }
     1: proc int main() { 1: return 0; }";
 
+/// No pointer changes at the calls, so that none of the 4294967296 choices asks for a code.
+const NONE_CHANGED: &str = "literal L { }; literal M { }; literal N { };
+    1: proc int f(ptr p)
+    { ptr q; int n; buf b 1; buf c 1; buf d 1; buf e 1; buf h 1; buf i 1; buf j 1; buf k 1; buf l 1; buf m 1; buf o 1;
+      buf r 1; 1: q = p; 1: q = null; 1: q = &b; 1: q = &c; 1: q = &d; 1: q = &e; 1: q = &h; 1: q = &i; 1: q = &j;
+      1: q = &k; 1: q = &l; 1: q = &m; 1: q = &o; 1: q = &r; 1: n = call g(q, q, q, q, q, q, q, q); 1: return n; }
+    1: proc int g(ptr a, ptr b, ptr c, ptr d, ptr e, ptr h, ptr i, ptr j) { 1: return 0; }
+    1: proc int main() { 1: return 0; }";
+
 /// A program, the codes of a case, and the least closed codes of the pointers and the cells.
-const LEAST: [(&str, &[u32], &[&[i32]]); 5] = [
+const LEAST: [(&str, &[u32], &[&[i32]]); 6] = [
     (
         READ_AND_CLEARED,
         &[1, 2, 2],
@@ -56,6 +71,11 @@ const LEAST: [(&str, &[u32], &[&[i32]]); 5] = [
     (LITERAL_MODIFIED, &[1, 2], &[&[1], &[-1, 2]]),
     (RECURSIVE, &[1], &[&[0, 1], &[-1, 0, 1]]),
     (RESULT_DROPPED, &[1], &[&[1], &[-1, 1]]),
+    (
+        NONE_CHANGED,
+        &[1],
+        &[&[1], &[-1, 0, 1, 2, 3, 4, 5, 6, 7, 8, 9, 10, 11, 12, 13]],
+    ),
 ];
 
 /// Whether targets have these sets.
@@ -76,7 +96,8 @@ fn is_least(alloc: Global, text: &str, codes: &[u32], wanted: &[&[i32]]) -> Resu
     let p = program(alloc, text)?;
     let entry = case(alloc, codes)?;
     let found = targets_of(alloc, &p, &entry)?;
-    Ok(are_sets(&found, wanted) && are_closed(&p, &entry, &found))
+    let closed = are_closed(&p, &entry, &found)?;
+    Ok(closed && are_sets(&found, wanted))
 }
 
 #[test]
@@ -108,7 +129,7 @@ const CLOSED: [(&str, &[u32], &[&[i32]], bool); 4] = [
 fn is_closed(alloc: Global, text: &str, codes: &[u32], sets: &[&[i32]]) -> Result<bool, Fail> {
     let p = program(alloc, text)?;
     let entry = case(alloc, codes)?;
-    Ok(are_closed(&p, &entry, &sets_of(alloc, sets)?))
+    are_closed(&p, &entry, &sets_of(alloc, sets)?)
 }
 
 #[test]

@@ -1,4 +1,5 @@
 use Rattle.std.proofs.Common.{subst}
+use Rattle.cv_ppts.specs.Numbers.{Rows, codes_of}
 use Rattle.cv_ppts.specs.Keys.{setting}
 use Rattle.cv_ppts.specs.Lacking.{Lacks}
 use Rattle.cv_ppts.specs.Plain.{HasEntryCodes, Sets}
@@ -11,13 +12,13 @@ loop-missing-init c = stays c.args.sets.now.items (λ (R : Sets). HasEntryCodes 
 pub loop-missing-smaller : goal.loop-missing-smaller
 loop-missing-smaller c =
     room c.loop-missing.sets.items c.add.new.sets.items (λ (R : Sets). HasEntryCodes (setting c.args.s.now) R)
-    (adds c.loop-missing.sets.items c.add.new.sets.items (λ (R : Sets). HasEntryCodes (setting c.args.s.now) R) _ _ (subst (λ (T : Sets). Lacks T (λ (R : Sets). HasEntryCodes (setting c.args.s.now) R) c.in-Some.missing.to c.in-Some.missing.code) c.as_slice.ensures.value c.in-Some.ensures) c.in_ok-add.ensures)
+    (adds c.loop-missing.sets.items c.add.new.sets.items (λ (R : Sets). HasEntryCodes (setting c.args.s.now) R) _ _ (subst (λ (T : Rows). Lacks (codes_of T) (λ (R : Sets). HasEntryCodes (setting c.args.s.now) R) c.in-Some.missing.to c.in-Some.missing.code) c.as_slice.ensures.value c.in-Some.ensures) c.in_ok-add.ensures)
     (table_here c.args.sets.now.items c.loop-missing.sets.items c.loop-missing.more (λ (R : Sets). HasEntryCodes (setting c.args.s.now) R) c.loop-missing.invariant c.requires)
 
 pub loop-missing-preserved : goal.loop-missing-preserved
 loop-missing-preserved c =
     grows_more c.args.sets.now.items c.loop-missing.sets.items c.add.new.sets.items c.loop-missing.more (λ (R : Sets). HasEntryCodes (setting c.args.s.now) R) _ _
-    c.loop-missing.invariant (subst (λ (T : Sets). Lacks T (λ (R : Sets). HasEntryCodes (setting c.args.s.now) R) c.in-Some.missing.to c.in-Some.missing.code) c.as_slice.ensures.value c.in-Some.ensures) c.in_ok-add.ensures
+    c.loop-missing.invariant (subst (λ (T : Rows). Lacks (codes_of T) (λ (R : Sets). HasEntryCodes (setting c.args.s.now) R) c.in-Some.missing.to c.in-Some.missing.code) c.as_slice.ensures.value c.in-Some.ensures) c.in_ok-add.ensures
 
 pub returns : goal.returns
-returns c = record { grown = c.loop-missing.invariant; kept = λ e. subst (λ (R : Sets). HasEntryCodes (setting c.args.s.now) R) c.as_slice.ensures.value c.in_default.ensures }
+returns c = record { grown = c.loop-missing.invariant; kept = λ e. subst (λ (T : Rows). HasEntryCodes (setting c.args.s.now) (codes_of T)) c.as_slice.ensures.value c.in_default.ensures }

@@ -1,5 +1,4 @@
-use Rattle.std.proofs.Common.{◌≡◌, ◌++◌, ◌<◌, ◌^◌, length}
-use Rattle.std.specs.List.{All}
+use Rattle.std.proofs.Common.{◌≡◌, ◌≤◌, ◌+◌, ◌++◌, length}
 use Rattle.cv_core.specs.Names.{stmts_of}
 use Rattle.cv_ppts.specs.Keys.{setting}
 use Rattle.cv_ppts.specs.Planned.{later_targets}
@@ -8,7 +7,7 @@ use Rattle.cv_ppts.proofs.plan.all_targets.Given as goal
 
 abbrev pub invariant-loop-rest : goal.invariant-loop-rest
 invariant-loop-rest l =
-    (l.targets.items ++ later_targets l.s.p.now l.target l.rest ≡ later_targets l.s.p.now (new_target (setting l.s) 0) (stmts_of l.s.f.now.body)) × All (λ t. t < 2 ^ 66) l.targets.items
+    (l.targets.items ++ later_targets l.s.p.now l.target l.rest ≡ later_targets l.s.p.now (new_target (setting l.s) 0) (stmts_of l.s.f.now.body)) × (l.target + length l.rest ≤ new_target (setting l.s) 0 + length (stmts_of l.s.f.now.body))
 
 abbrev pub decreases-loop-rest : goal.decreases-loop-rest
 decreases-loop-rest l = length l.rest

@@ -44,7 +44,7 @@ loop-code-preserved t c =
           w.in_ok-find_contents-in-Some.ensures))
     ]
 
-pub returns-then-goes_nowhere : goal.returns-then-goes_nowhere
-returns-then-goes_nowhere t c =
+pub returns-then-not-allows : goal.returns-then-not-allows
+returns-then-not-allows t c =
     found_nothing c.args.found.now.items (content_lists c.args.s.now.p.now c.args.s.now.f.now c.args.named c.args.entities.now c.args.blocks.now c.args.done.now)
-    (contents_none c.args.s.now.p.now c.args.s.now.f.now c.args.named c.args.entities.now c.args.blocks.now c.args.done.now (sym c.goes_nowhere.ensures ∙ c.if-goes_nowhere.true)) c.requires.few
+    (contents_none c.args.s.now.p.now c.args.s.now.f.now c.args.named c.args.entities.now c.args.blocks.now c.args.done.now (sym c.allows.ensures ∙ c.if-not-allows.true)) c.requires.few

@@ -53,7 +53,7 @@ returns t c =
     subst (λ L. (c.loop-code.found.items ≡ c.args.found.now.items ++ L) × (length c.loop-code.found.items ≤ 64)) (ap (λ es. named_lists c.args.s.now.p.now c.args.s.now.sets.now c.args.s.now.f.now es c.args.blocks.now c.args.done.now) (sym all))
     (course_is_over c.args.found.now.items c.loop-code.found.items lists c.loop-code.code (code_limit c.args.blocks.now) (omega (arith, c.in_ok-code-end.ensures)) c.loop-code.invariant)
 
-pub returns-then-goes_nowhere : goal.returns-then-goes_nowhere
-returns-then-goes_nowhere t c =
+pub returns-then-not-allows : goal.returns-then-not-allows
+returns-then-not-allows t c =
     found_nothing c.args.found.now.items (named_lists c.args.s.now.p.now c.args.s.now.sets.now c.args.s.now.f.now c.args.entities.now c.args.blocks.now c.args.done.now)
-    (named_none c.args.s.now.p.now c.args.s.now.sets.now c.args.s.now.f.now c.args.entities.now c.args.blocks.now c.args.done.now (sym c.goes_nowhere.ensures ∙ c.if-goes_nowhere.true)) c.requires.few
+    (named_none c.args.s.now.p.now c.args.s.now.sets.now c.args.s.now.f.now c.args.entities.now c.args.blocks.now c.args.done.now (sym c.allows.ensures ∙ c.if-not-allows.true)) c.requires.few
