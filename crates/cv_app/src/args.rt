@@ -1,6 +1,6 @@
 //! The words that main is given.
 ghost use Rattle.std.specs.Prelude.{◌≡◌, IfOk, option_map};
-ghost use Rattle.cv_app.specs.Args.{arg_of as arg_of_word, args_of as args_of_words};
+ghost use Rattle.cv_app.specs.Args as spec;
 ghost use Rattle.cv_app.specs.Commands.{words_of};
 
 use crate::numbers::int_of;
@@ -13,7 +13,7 @@ const TEXT_LIMIT: usize = 1048576;
 
 /// What a word is for a formal of a kind: an int, or the bytes of a buffer; None where it has another form.
 fn arg_of(alloc: Global, kind: VarKind, word: &[u8]) -> Result<Option<Arg>, AllocError>
-    ensures { IfOk result (λ arg. arg ≡ arg_of_word kind word.now) }
+    ensures { IfOk result (λ arg. arg ≡ spec.arg_of kind word.now) }
 {
     match kind {
         VarKind::Int => Ok(int_of(word).map(|value| Arg::Int(value))),
@@ -30,7 +30,7 @@ pub(crate) fn args_of(
     formals: &[Formal],
     words: &[Vec<u8>],
 ) -> Result<Option<Vec<Arg>>, AllocError>
-    ensures { IfOk result (λ args. option_map (λ vec. vec.items) args ≡ args_of_words formals.now (words_of words.now)) }
+    ensures { IfOk result (λ args. option_map (λ vec. vec.items) args ≡ spec.args_of formals.now (words_of words.now)) }
 {
     let mut args = Vec::new(alloc);
     let mut formals = formals;

@@ -1,6 +1,6 @@
 //! How a run ended: its status, its line, and what is printed.
 ghost use Rattle.std.specs.Prelude.{◌≡◌, ◌++◌, codes, decimal, IfOk};
-ghost use Rattle.cv_app.specs.Ends.{kind_name as kind_name_of, proc_name as proc_name_of, end_text as end_text_of, end_status as end_status_of};
+ghost use Rattle.cv_app.specs.Ends as spec;
 ghost use Rattle.cv_app.specs.Sinks.{PrintedEnd};
 ghost use Rattle.cv_app.specs.Texts.{line};
 
@@ -12,7 +12,7 @@ use cv_meaning::RunEnd;
 use std::alloc::{AllocError, Global};
 
 fn kind_name(kind: ErrKind) -> &'static str
-    ensures { result.now ≡ kind_name_of kind }
+    ensures { result.now ≡ spec.kind_name kind }
 {
     match kind {
         ErrKind::Range => "Range",
@@ -30,7 +30,7 @@ fn kind_name(kind: ErrKind) -> &'static str
 
 /// The name of the procedure of this number, from 0; no bytes where there is none.
 fn proc_name(program: &Program, number: u32) -> &[u8]
-    ensures { result.now ≡ proc_name_of program.now number }
+    ensures { result.now ≡ spec.proc_name program.now number }
 {
     match program.procs.as_slice().get(number as usize) {
         Some(proc) => proc.name.as_slice(),
@@ -39,7 +39,7 @@ fn proc_name(program: &Program, number: u32) -> &[u8]
 }
 
 fn error_line(alloc: Global, kind: ErrKind, name: &[u8], number: u32) -> Result<Vec<u8>, AllocError>
-    ensures { IfOk result (λ text. text.items ≡ codes "error " ++ kind_name_of kind ++ codes " in " ++ name.now ++ codes " at line " ++ line (decimal number)) }
+    ensures { IfOk result (λ text. text.items ≡ codes "error " ++ spec.kind_name kind ++ codes " in " ++ name.now ++ codes " at line " ++ line (decimal number)) }
 {
     let kind = kind_name(kind);
     let mut text = Vec::from_slice(alloc, format!(in alloc; "error {kind} in ")?.as_bytes())?;
@@ -56,7 +56,7 @@ pub(crate) fn end_line(
     steps: u32,
     end: RunEnd,
 ) -> Result<Vec<u8>, AllocError>
-    ensures { IfOk result (λ text. text.items ≡ end_text_of program.now steps end) }
+    ensures { IfOk result (λ text. text.items ≡ spec.end_text program.now steps end) }
 {
     match end {
         RunEnd::Returned(value) => {
@@ -76,7 +76,7 @@ pub(crate) fn end_line(
 
 /// The status of the program for the end of a run: 0 returned, 1 an error, 8 stopped.
 pub(crate) fn end_status(end: RunEnd) -> u8
-    ensures { result ≡ end_status_of end }
+    ensures { result ≡ spec.end_status end }
 {
     match end {
         RunEnd::Returned(_) => 0,

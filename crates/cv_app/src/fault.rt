@@ -5,7 +5,7 @@ ghost use Rattle.cv_app.specs.declared.fault.Fault.TheVariants.{Memory as memory
 ghost use Rattle.cv_app.specs.Faults.{refusal_of};
 ghost use Rattle.cv_app.specs.Served.{refused};
 ghost use Rattle.cv_app.specs.Sinks.{Writes, Reported};
-ghost use Rattle.cv_app.specs.Texts.{fault_text, limit_text, rule_name as rule_name_of};
+ghost use Rattle.cv_app.specs.Texts as spec;
 
 use cv_core::{LimitName, ShapeFault, ShapeRule};
 use cv_io::{Sink, SinkError};
@@ -54,7 +54,7 @@ impl From<AllocError> for Fault {
 
 /// The line of a file that has a fault of this name on a line.
 fn fault_line(alloc: Global, file: &[u8], number: u32, name: &[u8]) -> Result<Vec<u8>, AllocError>
-    ensures { IfOk result (λ text. text.items ≡ fault_text file.now number name.now) }
+    ensures { IfOk result (λ text. text.items ≡ spec.fault_text file.now number name.now) }
 {
     let mut text = Vec::from_slice(alloc, file)?;
     let place = format!(in alloc; ":{number}: fault ")?;
@@ -65,7 +65,7 @@ fn fault_line(alloc: Global, file: &[u8], number: u32, name: &[u8]) -> Result<Ve
 }
 
 fn rule_name(rule: ShapeRule) -> &'static [u8]
-    ensures { result.now ≡ rule_name_of rule }
+    ensures { result.now ≡ spec.rule_name rule }
 {
     match rule {
         ShapeRule::DoubleName => b"DoubleName",
@@ -84,7 +84,7 @@ fn rule_name(rule: ShapeRule) -> &'static [u8]
 
 /// The line of a limit that is passed: its name and its value.
 fn limit_line(which: LimitName) -> &'static [u8]
-    ensures { result.now ≡ limit_text which }
+    ensures { result.now ≡ spec.limit_text which }
 {
     match which {
         LimitName::Procedures => b"limit procedures 256\n",
@@ -122,7 +122,7 @@ pub(crate) fn refuse<E: Sink>(errs: &mut E, status: u8, text: &[u8]) -> u8
 
 /// Says on standard error that a file has a fault of this name on a line.
 fn report_fault<E: Sink>(alloc: Global, errs: &mut E, file: &[u8], number: u32, name: &[u8]) -> u8
-    ensures { Reported (refused 3 (fault_text file.now number name.now)) result (E.content errs.old) (E.content errs.new)
+    ensures { Reported (refused 3 (spec.fault_text file.now number name.now)) result (E.content errs.old) (E.content errs.new)
         (E.faults errs.old) (E.faults errs.new) }
 {
     match fault_line(alloc, file, number, name) {

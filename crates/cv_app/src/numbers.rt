@@ -2,7 +2,7 @@
 ghost use Rattle.std.specs.Prelude.{◌≡◌};
 ghost use Rattle.std.specs.List.{list_all};
 ghost use Rattle.std.specs.Char.{is_ascii_digit};
-ghost use Rattle.cv_app.specs.Numbers.{is_short as short_of, number_up_to as number_up_to_of, steps_of as steps_of_word, int_of as int_of_word};
+ghost use Rattle.cv_app.specs.Numbers as spec;
 
 /// Whether all bytes are digits.
 fn are_digits(word: &[u8]) -> bool
@@ -13,7 +13,7 @@ fn are_digits(word: &[u8]) -> bool
 
 /// Whether the word is one to ten digits.
 fn is_short(word: &[u8]) -> bool
-    ensures { result ≡ short_of word.now }
+    ensures { result ≡ spec.is_short word.now }
 {
     let some = 1 <= word.len();
     let few = word.len() <= 10;
@@ -23,7 +23,7 @@ fn is_short(word: &[u8]) -> bool
 
 /// The number that one to ten digits write, where it is at most `most`.
 fn number_up_to(word: &[u8], most: u32) -> Option<u32>
-    ensures { result ≡ number_up_to_of most word.now }
+    ensures { result ≡ spec.number_up_to most word.now }
 {
     if !is_short(word) {
         return None;
@@ -41,14 +41,14 @@ fn number_up_to(word: &[u8], most: u32) -> Option<u32>
 
 /// The number of steps that a word writes: one to ten digits, at most 1000000000.
 pub(crate) fn steps_of(word: &[u8]) -> Option<u32>
-    ensures { result ≡ steps_of_word word.now }
+    ensures { result ≡ spec.steps_of word.now }
 {
     number_up_to(word, 1000000000)
 }
 
 /// The int that a word writes: one to ten digits, with a minus before them or without.
 pub(crate) fn int_of(word: &[u8]) -> Option<i32>
-    ensures { result ≡ int_of_word word.now }
+    ensures { result ≡ spec.int_of word.now }
 {
     let [sign, digits @ ..] = word else {
         return None;

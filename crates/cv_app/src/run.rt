@@ -8,7 +8,7 @@ ghost use Rattle.cv_io.specs.Counts.{Rose};
 ghost use Rattle.cv_app.specs.declared.served.Served.{Served as Answer};
 ghost use Rattle.cv_app.specs.Answers.{Answers, IsTold, IsUsage, ReadsIn};
 ghost use Rattle.cv_app.specs.Commands.{Run, words_of};
-ghost use Rattle.cv_app.specs.Calls.{reads_input as reads};
+ghost use Rattle.cv_app.specs.Calls as spec;
 ghost use Rattle.cv_app.specs.Decided.{run_outcome};
 ghost use Rattle.cv_app.specs.Faults.{InputRefused, UnlessHindered};
 ghost use Rattle.cv_app.specs.Refusals.{MayRefuse};
@@ -96,10 +96,10 @@ fn run_program(
 
 /// The input of a run of the program: all that is left in the source where some statement calls getchar, else nothing.
 fn input_of<I: Source>(alloc: Global, program: &Program, input: &mut I) -> Result<Vec<u8>, Fault>
-    ensures is { IfOk result (λ bytes. IsInput (reads program.now) (I.content input.old) bytes.items) }
-    ensures asked { IfErr result (λ _. reads program.now ≡ true) }
+    ensures is { IfOk result (λ bytes. IsInput (spec.reads_input program.now) (I.content input.old) bytes.items) }
+    ensures asked { IfErr result (λ _. spec.reads_input program.now ≡ true) }
     ensures refused { IfErr result (InputRefused (I.content input.old) (I.faults input.old) (I.faults input.new)) }
-    ensures untouched { (reads program.now ≡ true)
+    ensures untouched { (spec.reads_input program.now ≡ true)
         ⊎ IsUntouched (I.content input.old) (I.content input.new) (I.faults input.old) (I.faults input.new) }
 {
     if reads_input(program) {

@@ -4,7 +4,7 @@ ghost use Rattle.cv_core.specs.Headings.{gives_int as int_given, is_main as main
 ghost use Rattle.cv_core.specs.Shape.{is_last as last_of};
 ghost use Rattle.cv_core.specs.declared.program.Form.TheVariants.{Return};
 ghost use Rattle.cv_text.specs.Narrow.{IsNarrow};
-ghost use Rattle.cv_app.specs.Built.{first_unbuilt, is_move as move_of, is_return as return_of, is_built_form as built_form, stmt_parts, is_built_heading as built_heading, is_empty_contract as empty_contract, two_names as names_in, inner_parts, body_parts, proc_parts, procs_parts, unbuilt_line};
+ghost use Rattle.cv_app.specs.Built as spec;
 
 use cv_core::{
     AnyOperand, Contract, Form, Local, LocalBody, Operand, Proc, ProcBody, Program, ResultKind,
@@ -16,7 +16,7 @@ const STATEMENTS: usize = 100;
 
 /// Whether the statement is `p = &b`, `p = p + K` or `store p, K`.
 fn is_move(b: &[u8], p: &[u8], form: &Form) -> bool
-    ensures { result ≡ move_of b.now p.now form.now }
+    ensures { result ≡ spec.is_move b.now p.now form.now }
 {
     match form {
         Form::Address { p: x, object } => x.as_slice() == p && object.as_slice() == b,
@@ -35,7 +35,7 @@ fn is_move(b: &[u8], p: &[u8], form: &Form) -> bool
 
 /// Whether `return` of the value is `return K`.
 fn is_constant(value: &AnyOperand) -> bool
-    ensures { result ≡ return_of (Return (Some value.now)) }
+    ensures { result ≡ spec.is_return (Return (Some value.now)) }
 {
     match value {
         AnyOperand::Operand(Operand::Number(_)) => true,
@@ -45,7 +45,7 @@ fn is_constant(value: &AnyOperand) -> bool
 
 /// Whether the statement is `return K`.
 fn is_return(form: &Form) -> bool
-    ensures { result ≡ return_of form.now }
+    ensures { result ≡ spec.is_return form.now }
 {
     match form {
         Form::Return(Some(value)) => is_constant(value),
@@ -64,7 +64,7 @@ fn is_last(rest: &[Stmt]) -> bool
 
 /// Whether the last statement of a body, or another one, is built.
 fn is_built(b: &[u8], p: &[u8], last: bool, form: &Form) -> bool
-    ensures { result ≡ built_form b.now p.now last form.now }
+    ensures { result ≡ spec.is_built_form b.now p.now last form.now }
 {
     if last {
         is_return(form)
@@ -75,7 +75,7 @@ fn is_built(b: &[u8], p: &[u8], last: bool, form: &Form) -> bool
 
 /// The line of the first statement that isn't built, from the one with this number on.
 fn unbuilt_statement(b: &[u8], p: &[u8], number: usize, stmts: &[Stmt]) -> Option<u32>
-    ensures { result ≡ first_unbuilt (stmt_parts b.now p.now number stmts.now) }
+    ensures { result ≡ spec.first_unbuilt (spec.stmt_parts b.now p.now number stmts.now) }
 {
     match stmts {
         [] => None,
@@ -91,7 +91,7 @@ fn unbuilt_statement(b: &[u8], p: &[u8], number: usize, stmts: &[Stmt]) -> Optio
 
 /// The line of the first statement that isn't built, or the line of the procedure where the two names are the same.
 fn unbuilt_with(line: u32, b: &[u8], p: &[u8], stmts: &[Stmt]) -> Option<u32>
-    ensures { result ≡ first_unbuilt (inner_parts line stmts.now (Some (b.now, p.now))) }
+    ensures { result ≡ spec.first_unbuilt (spec.inner_parts line stmts.now (Some (b.now, p.now))) }
 {
     if b == p {
         Some(line)
@@ -102,7 +102,7 @@ fn unbuilt_with(line: u32, b: &[u8], p: &[u8], stmts: &[Stmt]) -> Option<u32>
 
 /// The line of what isn't built first, the locals or a statement.
 fn unbuilt_inner(line: u32, locals: &[Local], stmts: &[Stmt]) -> Option<u32>
-    ensures { result ≡ first_unbuilt (inner_parts line stmts.now (names_in locals.now)) }
+    ensures { result ≡ spec.first_unbuilt (spec.inner_parts line stmts.now (spec.two_names locals.now)) }
 {
     match locals {
         [first, second] => match (first.body, second.body) {
@@ -120,7 +120,7 @@ fn unbuilt_inner(line: u32, locals: &[Local], stmts: &[Stmt]) -> Option<u32>
 
 /// The line of what isn't built first in a body.
 fn unbuilt_body(line: u32, body: &Option<ProcBody>) -> Option<u32>
-    ensures { result ≡ first_unbuilt (body_parts line body.now) }
+    ensures { result ≡ spec.first_unbuilt (spec.body_parts line body.now) }
 {
     match body {
         None => Some(line),
@@ -142,7 +142,7 @@ fn gives_int(answer: ResultKind) -> bool
 
 /// Whether the heading is `int main()`.
 fn is_built_heading(f: &Proc) -> bool
-    ensures { result ≡ built_heading f.now }
+    ensures { result ≡ spec.is_built_heading f.now }
 {
     let int = gives_int(f.answer);
     let named = is_main(f.name.as_slice());
@@ -152,7 +152,7 @@ fn is_built_heading(f: &Proc) -> bool
 
 /// Whether the contract has no clause.
 fn is_empty_contract(contract: &Contract) -> bool
-    ensures { result ≡ empty_contract contract.now }
+    ensures { result ≡ spec.is_empty_contract contract.now }
 {
     let listed = contract.listed.len() == 0;
     let needs = contract.needs.len() == 0;
@@ -163,7 +163,7 @@ fn is_empty_contract(contract: &Contract) -> bool
 
 /// The line of what isn't built first in the first procedure.
 fn unbuilt_first(f: &Proc) -> Option<u32>
-    ensures { result ≡ first_unbuilt (proc_parts f.now) }
+    ensures { result ≡ spec.first_unbuilt (spec.proc_parts f.now) }
 {
     let heading = is_built_heading(f);
     let contract = is_empty_contract(&f.contract);
@@ -176,7 +176,7 @@ fn unbuilt_first(f: &Proc) -> Option<u32>
 
 /// The line of the next procedure, which isn't built.
 fn unbuilt_next(procs: &[Proc]) -> Option<u32>
-    ensures { result ≡ first_unbuilt (map (λ f. (f.line, false)) procs.now) }
+    ensures { result ≡ spec.first_unbuilt (map (λ f. (f.line, false)) procs.now) }
 {
     match procs {
         [] => None,
@@ -187,7 +187,7 @@ fn unbuilt_next(procs: &[Proc]) -> Option<u32>
 /// The line of what isn't built first in the procedures.
 #[tactic(auto, using(crate::proofs::BuiltLemmas::first_found))]
 fn unbuilt_procedure(procs: &[Proc]) -> Option<u32>
-    ensures { result ≡ first_unbuilt (procs_parts procs.now) }
+    ensures { result ≡ spec.first_unbuilt (spec.procs_parts procs.now) }
 {
     match procs {
         [] => Some(1),
@@ -202,7 +202,7 @@ fn unbuilt_procedure(procs: &[Proc]) -> Option<u32>
 /// count for line 1), a heading, a contract or a local (the line of their procedure), or a statement, in the order of
 /// the text. None exactly for a straight-line program.
 pub fn built(program: &Program) -> Option<u32>
-    ensures first { result ≡ unbuilt_line program.now }
+    ensures first { result ≡ spec.unbuilt_line program.now }
     ensures narrow { (result ≡ None) ↔ IsNarrow program.now }
 {
     let globals = program.globals.len() == 0;

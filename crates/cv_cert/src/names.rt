@@ -2,33 +2,33 @@
 ghost use Rattle.std.specs.Prelude.{◌≡◌, ◌∷◌, [], codes};
 ghost use Rattle.std.specs.List.{list_any, list_all};
 ghost use Rattle.std.specs.Str.{bytes_eq};
-ghost use Rattle.cv_core.specs.Grammar.{is_letter as letter, is_digit as digit, begins_name as begins, is_name as name, reserved};
+ghost use Rattle.cv_core.specs.Grammar as spec;
 ghost use Rattle.std.specs.Prelude.{◌||◌};
 
 /// Whether a byte may begin a name.
 fn is_letter(byte: u8) -> bool
-    ensures { result ≡ letter byte }
+    ensures { result ≡ spec.is_letter byte }
 {
     matches!(byte, b'A'..=b'Z' | b'a'..=b'z' | b'_' | b'$')
 }
 
 /// Whether a byte may stand in a name.
 fn is_name_byte(byte: u8) -> bool
-    ensures { result ≡ (letter byte || digit byte) }
+    ensures { result ≡ (spec.is_letter byte || spec.is_digit byte) }
 {
     is_letter(byte) || matches!(byte, b'0'..=b'9')
 }
 
 /// Whether all bytes may stand in a name.
 fn are_name_bytes(bytes: &[u8]) -> bool
-    ensures { result ≡ list_all (λ d. letter d || digit d) bytes.now }
+    ensures { result ≡ list_all (λ d. spec.is_letter d || spec.is_digit d) bytes.now }
 {
     bytes.iter().all(|byte| is_name_byte(*byte))
 }
 
 /// Whether a token begins as a name and has only bytes of names.
 fn begins_name(token: &[u8]) -> bool
-    ensures { result ≡ begins token.now }
+    ensures { result ≡ spec.begins_name token.now }
 {
     let [first, others @ ..] = token else {
         return false;
@@ -93,14 +93,14 @@ fn is_jumping(token: &[u8]) -> bool
 
 /// Whether a token is a word that is no name.
 fn is_reserved(token: &[u8]) -> bool
-    ensures { result ≡ list_any (bytes_eq token.now) reserved }
+    ensures { result ≡ list_any (bytes_eq token.now) spec.reserved }
 {
     is_declaring(token) || is_heading(token) || is_moving(token) || is_jumping(token)
 }
 
 /// Whether a token is a name.
 pub(crate) fn is_name(token: &[u8]) -> bool
-    ensures { result ≡ name token.now }
+    ensures { result ≡ spec.is_name token.now }
 {
     begins_name(token) && !is_reserved(token)
 }

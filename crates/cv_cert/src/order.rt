@@ -1,7 +1,7 @@
 //! The order of the rows of a statement.
 ghost use Rattle.std.specs.Prelude.{◌≡◌, ℕ, ℤ};
 ghost use Rattle.cv_cert.specs.Certificate.{is_before as before_of};
-ghost use Rattle.cv_cert.specs.Tokens.{has_room as room_for, room_above as above, is_after as after_of};
+ghost use Rattle.cv_cert.specs.Tokens as spec;
 ghost use Rattle.cv_cert.specs.Views.{last_row};
 
 use cv_num::Row;
@@ -30,14 +30,14 @@ fn is_before(left: &[(u32, i64)], right: &[(u32, i64)]) -> bool
 
 /// Whether there are `count` coefficients above this one.
 fn has_above(count: u32, coefficient: i64) -> bool
-    ensures { result ≡ above count coefficient }
+    ensures { result ≡ spec.room_above count coefficient }
 {
     coefficient < 0 || u64::from(count) + coefficient as u64 <= 9223372036854775807
 }
 
 /// Whether `count` rows can stand behind one with these pairs.
 pub(crate) fn has_room(count: u32, pairs: &[(u32, i64)]) -> bool
-    ensures { result ≡ room_for count pairs.now }
+    ensures { result ≡ spec.has_room count pairs.now }
 {
     match pairs {
         [] => true,
@@ -49,7 +49,7 @@ pub(crate) fn has_room(count: u32, pairs: &[(u32, i64)]) -> bool
 
 /// Whether a row may stand behind the last of these.
 pub(crate) fn is_after(rows: &[Row], r: &Row) -> bool
-    ensures { result ≡ after_of (last_row rows.now) r.now }
+    ensures { result ≡ spec.is_after (last_row rows.now) r.now }
 {
     match rows {
         [] => true,

@@ -1,7 +1,7 @@
 //! The rules of a valid certificate.
 ghost use Rattle.std.specs.Prelude.{◌≡◌, ◌==◌, ◌↔◌, ◌≤◌, nat_lt, codes, ◌<◌, [], ◌∷◌, length, All, IfOk, IsTrue, MatchOption, Some, None};
 ghost use Rattle.std.specs.List.{list_all, list_any};
-ghost use Rattle.cv_check.specs.Accepted.{points_to as points_to_of, names_pointer as names_pointer_of, IsCaseValid, IsBlockValid, IsCertificateValid, IsAccepted, all_owed};
+ghost use Rattle.cv_check.specs.Accepted as spec;
 ghost use Rattle.cv_meaning.specs.Clean.{Clean};
 ghost use Rattle.cv_text.specs.Narrow.{IsNarrow};
 ghost use Rattle.cv_check.specs.Integer.{has_address as has_address_of};
@@ -27,7 +27,7 @@ fn are_of_pointer(pairs: &[(u32, i64)]) -> bool
 
 /// Whether the row names at most the code and the offset of the pointer.
 fn names_pointer(r: &Row) -> bool
-    ensures { result ≡ names_pointer_of r.now }
+    ensures { result ≡ spec.names_pointer r.now }
 {
     let pairs = r.pairs.as_slice();
     let named = are_of_pointer(pairs);
@@ -36,14 +36,14 @@ fn names_pointer(r: &Row) -> bool
 }
 
 fn rows_name_pointer(rows: &[Row]) -> bool
-    ensures { result ≡ list_all names_pointer_of rows.now }
+    ensures { result ≡ list_all spec.names_pointer rows.now }
 {
     rows.iter().all(|r| names_pointer(r))
 }
 
 /// Whether the rows of all statements name at most the code and the offset of the pointer.
 fn all_name_pointer(rows: &[List<Row>]) -> bool
-    ensures { result ≡ list_all (list_all names_pointer_of) rows.now }
+    ensures { result ≡ list_all (list_all spec.names_pointer) rows.now }
 {
     rows.iter()
         .all(|of_statement| rows_name_pointer(of_statement.as_slice()))
@@ -58,7 +58,7 @@ fn has_buffer(set: &[u32]) -> bool
 
 /// Whether the family has one set, and it has the buffer's site where a statement points to the buffer.
 fn points_to(stmts: &[Stmt], sets: &[List<u32>]) -> bool
-    ensures { result ≡ points_to_of stmts.now sets.now }
+    ensures { result ≡ spec.points_to stmts.now sets.now }
 {
     match sets {
         [only] => {
@@ -78,7 +78,7 @@ fn all_steps<'a>(
     steps: &'a [Step],
 ) -> Result<Option<&'a [Step]>, AllocError>
     requires { All (λ rs. All (λ r. length r.pairs ≤ 200) rs) rows.now }
-    ensures { IfOk result (λ found. MatchOption found (all_shown (all_owed size stmts.now rows.now) steps.now ≡ None) (λ left. all_shown (all_owed size stmts.now rows.now) steps.now ≡ Some left.now)) }
+    ensures { IfOk result (λ found. MatchOption found (all_shown (spec.all_owed size stmts.now rows.now) steps.now ≡ None) (λ left. all_shown (spec.all_owed size stmts.now rows.now) steps.now ≡ Some left.now)) }
 {
     let target = has_address(stmts);
     let facts = facts(alloc, size, target)?;
@@ -99,7 +99,7 @@ fn is_case_valid(
     stmts: &[Stmt],
     case: &CertCase,
 ) -> Result<bool, AllocError>
-    ensures { IfOk result (λ valid. IsTrue valid ↔ IsCaseValid size stmts.now case.now) }
+    ensures { IfOk result (λ valid. IsTrue valid ↔ spec.IsCaseValid size stmts.now case.now) }
 {
     let rows = case.rows.as_slice();
     let formed = is_formed(stmts, case);
@@ -120,7 +120,7 @@ fn is_case_valid(
 
 /// Whether the case has rows for each statement, of the pointer alone, and no picks.
 fn is_formed(stmts: &[Stmt], case: &CertCase) -> bool
-    ensures { IsTrue result ↔ ((length case.now.rows ≡ length stmts.now) × IsTrue (list_all (list_all names_pointer_of) case.now.rows) × (case.now.picks ≡ [])) }
+    ensures { IsTrue result ↔ ((length case.now.rows ≡ length stmts.now) × IsTrue (list_all (list_all spec.names_pointer) case.now.rows) × (case.now.picks ≡ [])) }
 {
     let rows = case.rows.as_slice();
     let named = all_name_pointer(rows);
@@ -141,7 +141,7 @@ fn is_block_valid(
     stmts: &[Stmt],
     block: &Block,
 ) -> Result<bool, AllocError>
-    ensures { IfOk result (λ valid. IsTrue valid ↔ IsBlockValid size stmts.now block.now) }
+    ensures { IfOk result (λ valid. IsTrue valid ↔ spec.IsBlockValid size stmts.now block.now) }
 {
     let named = is_main(block.name.as_slice());
     if !named {
@@ -163,7 +163,7 @@ fn is_certificate_valid(
     stmts: &[Stmt],
     cert: &Cert,
 ) -> Result<bool, AllocError>
-    ensures { IfOk result (λ valid. IsTrue valid ↔ IsCertificateValid size stmts.now cert.now) }
+    ensures { IfOk result (λ valid. IsTrue valid ↔ spec.IsCertificateValid size stmts.now cert.now) }
 {
     let points = points_to(stmts, cert.sets.sets.as_slice());
     if !points {
@@ -184,7 +184,7 @@ fn is_certificate_valid(
 pub fn check_narrow(alloc: Global, p: &Program, text: &[u8]) -> Result<bool, AllocError>
     requires { length text.now ≤ 4294967294 }
     // True exactly for the texts of valid certificates.
-    ensures exact { IfOk result (λ accepted. IsTrue accepted ↔ IsAccepted p.now text.now) }
+    ensures exact { IfOk result (λ accepted. IsTrue accepted ↔ spec.IsAccepted p.now text.now) }
     // An accepted straight-line program is clean.
     ensures clean { IfOk result (λ accepted. IsTrue accepted → IsNarrow p.now → Clean p.now) }
 {

@@ -2,7 +2,7 @@
 ghost use Rattle.std.specs.Prelude.{◌≡◌, ◌==◌, ◌∷◌, [], All, IfOk, pos, ◌-ℤ◌};
 ghost use Rattle.cv_num.specs.Assigned.{IsSmallAssign};
 ghost use Rattle.cv_num.specs.Algebra.{number as number_of};
-ghost use Rattle.cv_check.specs.Integer.{place as place_at, facts as facts_at, entry as entry_of, at_nothing as at_nothing_of, at_buffer as at_buffer_of, has_byte as has_byte_of, wild as wild_of, stored as stored_of, zero_before as zero_before_of, zero_behind as zero_behind_of, other_at as other_at_of, other_before as other_before_of, other_behind as other_behind_of, zero_moves as zero_moves_of, other_moves as other_moves_of, store_moves as store_moves_of, plus as plus_of, less as less_of, address_place as address_place_of, return_place as return_place_of, no_place as no_place_of, shift_place as shift_place_of, store_place as store_place_of};
+ghost use Rattle.cv_check.specs.Integer as spec;
 ghost use Rattle.cv_core.specs.Chars.{low_byte};
 
 use crate::rows::{less, number, over, plus, under};
@@ -41,7 +41,7 @@ const FRESH: u32 = 3;
 
 /// The ranges of the three variables.
 pub(crate) fn facts(alloc: Global, size: u32, target: bool) -> Result<Vec<Row>, AllocError>
-    ensures { IfOk result (λ rows. rows.items ≡ facts_at size target) }
+    ensures { IfOk result (λ rows. rows.items ≡ spec.facts size target) }
 {
     let greatest = if target { 1 } else { -1 };
     Ok(vec![in alloc;
@@ -56,7 +56,7 @@ pub(crate) fn facts(alloc: Global, size: u32, target: bool) -> Result<Vec<Row>, 
 
 /// What holds at the entry: nothing is known of the pointer.
 pub(crate) fn entry(alloc: Global) -> Result<Vec<Row>, AllocError>
-    ensures { IfOk result (λ rows. rows.items ≡ entry_of) }
+    ensures { IfOk result (λ rows. rows.items ≡ spec.entry) }
 {
     Ok(vec![in alloc;
         plus(alloc, CODE, 1)?,
@@ -68,14 +68,14 @@ pub(crate) fn entry(alloc: Global) -> Result<Vec<Row>, AllocError>
 
 /// Nothing is known of the pointer.
 fn at_nothing(alloc: Global) -> Result<Vec<Row>, AllocError>
-    ensures { IfOk result (λ rows. rows.items ≡ at_nothing_of) }
+    ensures { IfOk result (λ rows. rows.items ≡ spec.at_nothing) }
 {
     Ok(vec![in alloc; plus(alloc, CODE, 1)?, less(alloc, -1, CODE)?]?)
 }
 
 /// The pointer points into the buffer.
 fn at_buffer(alloc: Global, size: u32) -> Result<Vec<Row>, AllocError>
-    ensures { IfOk result (λ rows. rows.items ≡ at_buffer_of size) }
+    ensures { IfOk result (λ rows. rows.items ≡ spec.at_buffer size) }
 {
     Ok(vec![in alloc;
         plus(alloc, CODE, -1)?,
@@ -86,7 +86,7 @@ fn at_buffer(alloc: Global, size: u32) -> Result<Vec<Row>, AllocError>
 
 /// A wild pointer is no pointer to move or to store through.
 fn wild(alloc: Global) -> Result<Group, AllocError>
-    ensures { IfOk result (λ g. g ≡ wild_of) }
+    ensures { IfOk result (λ g. g ≡ spec.wild) }
 {
     Ok(Group {
         guard: List::from_vec(at_nothing(alloc)?),
@@ -97,7 +97,7 @@ fn wild(alloc: Global) -> Result<Group, AllocError>
 /// `p = &b`.
 #[tactic(auto, using(crate::proofs::Small::address_small))]
 fn address_place(alloc: Global) -> Result<Place, AllocError>
-    ensures value { IfOk result (λ at. at ≡ address_place_of) }
+    ensures value { IfOk result (λ at. at ≡ spec.address_place) }
     ensures small { IfOk result (λ at. All (λ t. IsSmallAssign t.assign) at.moves) }
 {
     let items = vec![in alloc; (CODE, number(alloc, 1)?), (OFFSET, number(alloc, 0)?)]?;
@@ -114,7 +114,7 @@ fn address_place(alloc: Global) -> Result<Place, AllocError>
 
 /// The bounds of a move by `k`.
 fn shift_group(alloc: Global, size: u32, k: i32) -> Result<Group, AllocError>
-    ensures { IfOk result (λ g. (g.guard ≡ at_buffer_of size) × (g.goals ≡ plus_of 1 k ∷ less_of (pos size -ℤ k) 1 ∷ [])) }
+    ensures { IfOk result (λ g. (g.guard ≡ spec.at_buffer size) × (g.goals ≡ spec.plus 1 k ∷ spec.less (pos size -ℤ k) 1 ∷ [])) }
 {
     let below = plus(alloc, OFFSET, i64::from(k))?;
     let above = less(alloc, i64::from(size) - i64::from(k), OFFSET)?;
@@ -126,7 +126,7 @@ fn shift_group(alloc: Global, size: u32, k: i32) -> Result<Group, AllocError>
 
 /// A move by `k`.
 fn shift_move(alloc: Global, size: u32, k: i32) -> Result<Move, AllocError>
-    ensures { IfOk result (λ t. (t.guard ≡ at_buffer_of size) × (t.assign ≡ (0, number_of (pos 1)) ∷ (1, plus_of 1 k) ∷ [])) }
+    ensures { IfOk result (λ t. (t.guard ≡ spec.at_buffer size) × (t.assign ≡ (0, number_of (pos 1)) ∷ (1, spec.plus 1 k) ∷ [])) }
 {
     let items = vec![in alloc;
         (CODE, number(alloc, 1)?),
@@ -141,7 +141,7 @@ fn shift_move(alloc: Global, size: u32, k: i32) -> Result<Move, AllocError>
 /// `p = p + k`.
 #[tactic(auto, using(crate::proofs::Small::shift_small))]
 fn shift_place(alloc: Global, size: u32, target: bool, k: i32) -> Result<Place, AllocError>
-    ensures value { IfOk result (λ at. at ≡ shift_place_of size target k) }
+    ensures value { IfOk result (λ at. at ≡ spec.shift_place size target k) }
     ensures small { IfOk result (λ at. All (λ t. IsSmallAssign t.assign) at.moves) }
 {
     let nothing = wild(alloc)?;
@@ -161,14 +161,14 @@ fn shift_place(alloc: Global, size: u32, target: bool, k: i32) -> Result<Place, 
 
 /// A byte lies at the offset.
 fn has_byte(alloc: Global, size: u32) -> Result<Row, AllocError>
-    ensures { IfOk result (λ r. r ≡ has_byte_of size) }
+    ensures { IfOk result (λ r. r ≡ spec.has_byte size) }
 {
     less(alloc, i64::from(size) - 1, OFFSET)
 }
 
 /// Where a byte lies at the offset, and more holds, these assignments.
 fn stored(alloc: Global, size: u32, more: Vec<Row>, assign: Assign) -> Result<Move, AllocError>
-    ensures { IfOk result (λ t. t ≡ stored_of size more.items assign) }
+    ensures { IfOk result (λ t. t ≡ spec.stored size more.items assign) }
 {
     let mut guard = at_buffer(alloc, size)?;
     guard.push(has_byte(alloc, size)?)?;
@@ -182,7 +182,7 @@ fn stored(alloc: Global, size: u32, more: Vec<Row>, assign: Assign) -> Result<Mo
 
 /// The first zero becomes `v`.
 fn zero_becomes(alloc: Global, v: u32) -> Result<Assign, AllocError>
-    ensures { IfOk result (λ a. a ≡ (2, plus_of v (pos 0)) ∷ []) }
+    ensures { IfOk result (λ a. a ≡ (2, spec.plus v (pos 0)) ∷ []) }
 {
     let items = vec![in alloc; (FIRST_ZERO, plus(alloc, v, 0)?)]?;
     Assign::from_vec(items).ok_or(AllocError)
@@ -190,7 +190,7 @@ fn zero_becomes(alloc: Global, v: u32) -> Result<Assign, AllocError>
 
 /// The transitions of a store of a zero byte.
 fn zero_moves(alloc: Global, size: u32) -> Result<Vec<Move>, AllocError>
-    ensures { IfOk result (λ moves. moves.items ≡ zero_moves_of size) }
+    ensures { IfOk result (λ moves. moves.items ≡ spec.zero_moves size) }
 {
     let before = vec![in alloc; over(alloc, OFFSET, FIRST_ZERO, -1)?]?;
     let behind = vec![in alloc; under(alloc, OFFSET, FIRST_ZERO, 0)?]?;
@@ -201,7 +201,7 @@ fn zero_moves(alloc: Global, size: u32) -> Result<Vec<Move>, AllocError>
 
 /// Another byte at the first zero: the first zero is a later one.
 fn other_at(alloc: Global, size: u32) -> Result<Move, AllocError>
-    ensures { IfOk result (λ t. t ≡ other_at_of size) }
+    ensures { IfOk result (λ t. t ≡ spec.other_at size) }
 {
     let more = vec![in alloc;
         under(alloc, OFFSET, FIRST_ZERO, 0)?,
@@ -214,7 +214,7 @@ fn other_at(alloc: Global, size: u32) -> Result<Move, AllocError>
 
 /// The transitions of a store of another byte.
 fn other_moves(alloc: Global, size: u32) -> Result<Vec<Move>, AllocError>
-    ensures { IfOk result (λ moves. moves.items ≡ other_moves_of size) }
+    ensures { IfOk result (λ moves. moves.items ≡ spec.other_moves size) }
 {
     let before = vec![in alloc; over(alloc, OFFSET, FIRST_ZERO, -1)?]?;
     let behind = vec![in alloc; under(alloc, OFFSET, FIRST_ZERO, -1)?]?;
@@ -233,7 +233,7 @@ fn is_zero_byte(k: i32) -> bool
 
 /// The transitions of a store of `k`.
 fn store_moves(alloc: Global, size: u32, k: i32) -> Result<Vec<Move>, AllocError>
-    ensures { IfOk result (λ moves. moves.items ≡ store_moves_of size k) }
+    ensures { IfOk result (λ moves. moves.items ≡ spec.store_moves size k) }
 {
     if is_zero_byte(k) {
         zero_moves(alloc, size)
@@ -245,7 +245,7 @@ fn store_moves(alloc: Global, size: u32, k: i32) -> Result<Vec<Move>, AllocError
 /// `store p, k`.
 #[tactic(auto, using(crate::proofs::Small::store_small))]
 fn store_place(alloc: Global, size: u32, target: bool, k: i32) -> Result<Place, AllocError>
-    ensures value { IfOk result (λ at. at ≡ store_place_of size target k) }
+    ensures value { IfOk result (λ at. at ≡ spec.store_place size target k) }
     ensures small { IfOk result (λ at. All (λ t. IsSmallAssign t.assign) at.moves) }
 {
     let nothing = wild(alloc)?;
@@ -267,7 +267,7 @@ fn store_place(alloc: Global, size: u32, target: bool, k: i32) -> Result<Place, 
 
 /// `return k`.
 fn return_place(alloc: Global) -> Result<Place, AllocError>
-    ensures { IfOk result (λ at. at ≡ return_place_of) }
+    ensures { IfOk result (λ at. at ≡ spec.return_place) }
 {
     let only = Group {
         guard: List::new(alloc),
@@ -281,7 +281,7 @@ fn return_place(alloc: Global) -> Result<Place, AllocError>
 
 /// A statement that asks nothing and leads nowhere: no straight-line program has one.
 fn no_place(alloc: Global) -> Place
-    ensures { result ≡ no_place_of }
+    ensures { result ≡ spec.no_place }
 {
     Place {
         groups: List::new(alloc),
@@ -297,7 +297,7 @@ pub(crate) fn statement_place(
     target: bool,
     form: &Form,
 ) -> Result<Place, AllocError>
-    ensures value { IfOk result (λ at. at ≡ place_at size target form.now) }
+    ensures value { IfOk result (λ at. at ≡ spec.place size target form.now) }
     ensures small { IfOk result (λ at. All (λ t. IsSmallAssign t.assign) at.moves) }
 {
     match form {

@@ -1,13 +1,13 @@
 //! The parts of a straight-line program.
 ghost use Rattle.std.specs.Prelude.{◌≡◌, ◌<◌};
-ghost use Rattle.cv_check.specs.Accepted.{statements as statements_of, buffer_size as buffer_size_of, size_among as size_among_of};
+ghost use Rattle.cv_check.specs.Accepted as spec;
 ghost use Rattle.cv_check.specs.Integer.{has_address as has_address_of, is_address as is_address_of};
 
 use cv_core::{Form, Local, LocalBody, Program, Stmt};
 
 /// The statements of the first procedure.
 pub(crate) fn statements(p: &Program) -> &[Stmt]
-    ensures { result.now ≡ statements_of p.now }
+    ensures { result.now ≡ spec.statements p.now }
 {
     match p.procs.as_slice() {
         [] => &[],
@@ -20,7 +20,7 @@ pub(crate) fn statements(p: &Program) -> &[Stmt]
 
 /// The size of the first buffer, 0 where there is none.
 fn size_among(locals: &[Local]) -> u32
-    ensures { result ≡ size_among_of locals.now }
+    ensures { result ≡ spec.size_among locals.now }
 {
     match locals {
         [] => 0,
@@ -35,7 +35,7 @@ fn size_among(locals: &[Local]) -> u32
 
 /// The size of the first buffer among the locals of the first procedure, 0 where there is none.
 pub(crate) fn buffer_size(p: &Program) -> u32
-    ensures value { result ≡ buffer_size_of p.now }
+    ensures value { result ≡ spec.buffer_size p.now }
     ensures small { result < 2147483648 }
 {
     match p.procs.as_slice() {

@@ -2,7 +2,7 @@
 ghost use Rattle.std.specs.Prelude.{◌≡◌, ◌++◌, ◌∷◌, [], ◌<◌, IfOk, OnOk, pos};
 ghost use Rattle.cv_num.specs.Pairs.{IsCanonical};
 ghost use Rattle.cv_num.specs.Algebra.{number as number_of};
-ghost use Rattle.cv_check.specs.Integer.{plus as plus_of, less as less_of, over as over_of, under as under_of};
+ghost use Rattle.cv_check.specs.Integer as spec;
 
 use cv_num::{Row, RowError, row};
 use std::alloc::{AllocError, Global};
@@ -35,14 +35,14 @@ pub(crate) fn number(alloc: Global, z: i64) -> Result<Row, AllocError>
 
 /// `v + z`.
 pub(crate) fn plus(alloc: Global, v: u32, z: i64) -> Result<Row, AllocError>
-    ensures { IfOk result (λ r. r ≡ plus_of v z) }
+    ensures { IfOk result (λ r. r ≡ spec.plus v z) }
 {
     row_of(alloc, &[(v, 1)], z)
 }
 
 /// `z - v`.
 pub(crate) fn less(alloc: Global, z: i64, v: u32) -> Result<Row, AllocError>
-    ensures { IfOk result (λ r. r ≡ less_of z v) }
+    ensures { IfOk result (λ r. r ≡ spec.less z v) }
 {
     row_of(alloc, &[(v, -1)], z)
 }
@@ -50,7 +50,7 @@ pub(crate) fn less(alloc: Global, z: i64, v: u32) -> Result<Row, AllocError>
 /// `v - u + z`.
 pub(crate) fn over(alloc: Global, u: u32, v: u32, z: i64) -> Result<Row, AllocError>
     requires { u < v }
-    ensures { IfOk result (λ r. r ≡ over_of u v z) }
+    ensures { IfOk result (λ r. r ≡ spec.over u v z) }
 {
     row_of(alloc, &[(u, -1), (v, 1)], z)
 }
@@ -58,7 +58,7 @@ pub(crate) fn over(alloc: Global, u: u32, v: u32, z: i64) -> Result<Row, AllocEr
 /// `u - v + z`.
 pub(crate) fn under(alloc: Global, u: u32, v: u32, z: i64) -> Result<Row, AllocError>
     requires { u < v }
-    ensures { IfOk result (λ r. r ≡ under_of u v z) }
+    ensures { IfOk result (λ r. r ≡ spec.under u v z) }
 {
     row_of(alloc, &[(u, 1), (v, -1)], z)
 }

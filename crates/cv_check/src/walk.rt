@@ -4,7 +4,7 @@ ghost use Rattle.std.specs.List.{flat_map, list_all};
 ghost use Rattle.cv_num.specs.Assigned.{IsSmallAssign};
 ghost use Rattle.cv_check.specs.Integer.{facts as facts_of, place as place_of};
 ghost use Rattle.cv_check.specs.Shown.{all_shown, group_owed, move_owed, place_owed, stmts_owed, first_rows as first_rows_of, later_rows as later_rows_of};
-ghost use Rattle.cv_check.specs.Accepted.{is_sized as is_sized_of, place_sized as place_sized_of, all_sized as all_sized_of};
+ghost use Rattle.cv_check.specs.Accepted as spec;
 
 use crate::place::{Group, Move, Place, statement_place};
 use crate::rows::hypotheses;
@@ -133,7 +133,7 @@ fn place_shown<'a>(
 
 /// Whether the hypotheses of a guard are at most 4096.
 fn is_sized(rows: &[Row], facts: &[Row], guard: &[Row]) -> bool
-    ensures { result ≡ is_sized_of rows.now facts.now guard.now }
+    ensures { result ≡ spec.is_sized rows.now facts.now guard.now }
 {
     rows.len() <= 4096
         && guard.len() <= 4096 - rows.len()
@@ -141,7 +141,7 @@ fn is_sized(rows: &[Row], facts: &[Row], guard: &[Row]) -> bool
 }
 
 fn groups_sized(rows: &[Row], facts: &[Row], groups: &[Group]) -> bool
-    ensures { result ≡ list_all (λ g. is_sized_of rows.now facts.now g.guard) groups.now }
+    ensures { result ≡ list_all (λ g. spec.is_sized rows.now facts.now g.guard) groups.now }
 {
     groups
         .iter()
@@ -149,7 +149,7 @@ fn groups_sized(rows: &[Row], facts: &[Row], groups: &[Group]) -> bool
 }
 
 fn moves_sized(rows: &[Row], facts: &[Row], moves: &[Move]) -> bool
-    ensures { result ≡ list_all (λ t. is_sized_of rows.now facts.now t.guard) moves.now }
+    ensures { result ≡ list_all (λ t. spec.is_sized rows.now facts.now t.guard) moves.now }
 {
     moves
         .iter()
@@ -158,7 +158,7 @@ fn moves_sized(rows: &[Row], facts: &[Row], moves: &[Move]) -> bool
 
 /// Whether each list of hypotheses of a statement is at most 4096 long.
 fn place_sized(rows: &[Row], facts: &[Row], at: &Place) -> bool
-    ensures { result ≡ place_sized_of rows.now facts.now at.now }
+    ensures { result ≡ spec.place_sized rows.now facts.now at.now }
 {
     let groups = groups_sized(rows, facts, at.groups.as_slice());
     let moves = moves_sized(rows, facts, at.moves.as_slice());
@@ -175,7 +175,7 @@ pub(crate) fn statements_sized(
     facts: &[Row],
 ) -> Result<bool, AllocError>
     requires { facts.now ≡ facts_of size target }
-    ensures { IfOk result (λ sized. sized ≡ all_sized_of size target stmts.now rows.now) }
+    ensures { IfOk result (λ sized. sized ≡ spec.all_sized size target stmts.now rows.now) }
 {
     match stmts {
         [] => Ok(true),

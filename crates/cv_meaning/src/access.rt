@@ -1,5 +1,5 @@
 ghost use Rattle.std.specs.Prelude.{◌≡◌, ℕ, ◌<◌, ◌≤◌, ◌^◌, ◌++◌, ◌∷◌, [], length, slice_get, slice_set, IsTrue, OnOk, OnErr, IfOk, IfErr, IfSome, Ok, Err, pos, negsuc, ◌≤ℤ◌};
-ghost use Rattle.cv_meaning.specs.Memory.{load as load_of, store as store_of, shift as shift_of, place as place_of, writable as writable_of, with_body, first_zero as first_zero_of_bytes, first_zero_of, first_zero_in, body_at as body_at_of, IsShort, bytes_at, bytes_of as bytes_of_body};
+ghost use Rattle.cv_meaning.specs.Memory as spec;
 ghost use Rattle.std.specs.Option.{option_copied};
 ghost use Rattle.cv_meaning.specs.Held.{seen};
 ghost use Rattle.cv_meaning.specs.declared.memory.Body.TheVariants.{Buffer};
@@ -18,8 +18,8 @@ pub(crate) struct Held<'a> {
 
 /// Where the pointer points: Null, Wild, Dead.
 fn place(m: &Mem, p: Ptr) -> Result<Held<'_>, ErrKind>
-    ensures value { seen result ≡ place_of m.now p }
-    ensures short { IfOk result (λ at. IsShort at.body.now) }
+    ensures value { seen result ≡ spec.place m.now p }
+    ensures short { IfOk result (λ at. spec.IsShort at.body.now) }
 {
     match p {
         Ptr::Null => Err(ErrKind::Null),
@@ -42,7 +42,7 @@ fn place(m: &Mem, p: Ptr) -> Result<Held<'_>, ErrKind>
 }
 
 fn bytes_of(b: &Body) -> &[u8]
-    ensures { result.now ≡ bytes_of_body b.now }
+    ensures { result.now ≡ spec.bytes_of b.now }
 {
     match b {
         Body::Buffer(bytes) => bytes.as_slice(),
@@ -51,7 +51,7 @@ fn bytes_of(b: &Body) -> &[u8]
 }
 
 pub(crate) fn zero_in(bytes: &[u8]) -> usize
-    ensures value { result ≡ first_zero_of_bytes bytes.now }
+    ensures value { result ≡ spec.first_zero bytes.now }
     ensures within { result ≤ length bytes.now }
 {
     for (i, b) in bytes.iter().enumerate() {
@@ -65,7 +65,7 @@ pub(crate) fn zero_in(bytes: &[u8]) -> usize
 /// The byte at `p`: Null, Wild, Dead, Bounds, Terminator. Condition: a pointer with an object points to a
 /// buffer of the memory.
 pub fn load(m: &Mem, p: Ptr) -> Result<u8, ErrKind>
-    ensures { result ≡ load_of m.now p }
+    ensures { result ≡ spec.load m.now p }
 {
     let at = place(m, p)?;
     let bytes = bytes_of(at.body);
@@ -81,7 +81,7 @@ pub fn load(m: &Mem, p: Ptr) -> Result<u8, ErrKind>
 
 /// Where `p` would be moved by `by` bytes: Null, Wild, Dead, Bounds.
 pub fn shift(m: &Mem, p: Ptr, by: i64) -> Result<Ptr, ErrKind>
-    ensures { result ≡ shift_of m.now p by }
+    ensures { result ≡ spec.shift m.now p by }
 {
     let at = place(m, p)?;
     if by < -4294967296 || by > 4294967296 {
@@ -100,7 +100,7 @@ pub fn shift(m: &Mem, p: Ptr, by: i64) -> Result<Ptr, ErrKind>
 
 /// Whether the object may be written: Literal, Modifies.
 fn writable(permit: &Permit, object: u64) -> Result<(), ErrKind>
-    ensures { result ≡ writable_of permit.now object (Ok tt) }
+    ensures { result ≡ spec.writable permit.now object (Ok tt) }
 {
     if object >= permit.literals.0 && object < permit.literals.1 {
         return Err(ErrKind::Literal);
@@ -114,8 +114,8 @@ fn writable(permit: &Permit, object: u64) -> Result<(), ErrKind>
 /// Writes one byte of a buffer.
 fn set_byte(m: &mut Mem, object: usize, offset: usize, byte: u8)
     requires there { object < length m.old }
-    requires inside { offset < length (bytes_at m.old object) }
-    ensures { m.new ≡ with_body object (Buffer (slice_set (bytes_at m.old object) offset byte)) m.old }
+    requires inside { offset < length (spec.bytes_at m.old object) }
+    ensures { m.new ≡ spec.with_body object (Buffer (slice_set (spec.bytes_at m.old object) offset byte)) m.old }
 {
     let x = &mut m.objects[object];
     match &mut x.body {
@@ -127,8 +127,8 @@ fn set_byte(m: &mut Mem, object: usize, offset: usize, byte: u8)
 /// Writes one byte at `p`: Null, Wild, Dead, Bounds, Literal, Modifies. It changes one byte of one object
 /// and nothing else, and after an error nothing.
 pub fn store(m: &mut Mem, p: Ptr, byte: u8, permit: &Permit) -> Result<(), ErrKind>
-    ensures ok { OnOk result (store_of m.old p byte permit.now ≡ Ok m.new) }
-    ensures err { IfErr result (λ e. (store_of m.old p byte permit.now ≡ Err e) × (m.new ≡ m.old)) }
+    ensures ok { OnOk result (spec.store m.old p byte permit.now ≡ Ok m.new) }
+    ensures err { IfErr result (λ e. (spec.store m.old p byte permit.now ≡ Err e) × (m.new ≡ m.old)) }
 {
     let at = place(m, p)?;
     let object = at.object;
@@ -143,8 +143,8 @@ pub fn store(m: &mut Mem, p: Ptr, byte: u8, permit: &Permit) -> Result<(), ErrKi
 
 /// The body of an object of the memory.
 fn body_at(m: &Mem, object: u64) -> Option<&Body>
-    ensures value { option_copied result ≡ body_at_of m.now object }
-    ensures short { IfSome result (λ b. IsShort b.now) }
+    ensures value { option_copied result ≡ spec.body_at m.now object }
+    ensures short { IfSome result (λ b. spec.IsShort b.now) }
 {
     match m.objects.get(object as usize) {
         None => None,
@@ -154,8 +154,8 @@ fn body_at(m: &Mem, object: u64) -> Option<&Body>
 
 /// The place of the first zero byte of a buffer.
 fn zero_of(body: &Body) -> Option<u32>
-    requires { IsShort body.now }
-    ensures { result ≡ first_zero_in body.now }
+    requires { spec.IsShort body.now }
+    ensures { result ≡ spec.first_zero_in body.now }
 {
     match body {
         Body::Buffer(bytes) => Some(zero_in(bytes.as_slice()) as u32),
@@ -166,7 +166,7 @@ fn zero_of(body: &Body) -> Option<u32>
 /// The place of the first zero byte, or the size where there is none; None exactly where the object is no
 /// buffer.
 pub fn first_zero(m: &Mem, object: u64) -> Option<u32>
-    ensures { result ≡ first_zero_of m.now object }
+    ensures { result ≡ spec.first_zero_of m.now object }
 {
     match body_at(m, object) {
         None => None,

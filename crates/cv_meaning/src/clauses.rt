@@ -3,7 +3,7 @@ ghost use Rattle.std.specs.Prelude.{◌≡◌, ◌≤◌, ◌*◌, ◌^◌, ◌+
 ghost use Rattle.std.specs.List.{list_all, list_any};
 ghost use Rattle.std.specs.Int.RustNames.{unsigned_abs};
 ghost use Rattle.cv_meaning.specs.Seen.{scene};
-ghost use Rattle.cv_meaning.specs.Contract.{factor_value as factor_value_of, lin_value as lin_value_of, compare as compare_of, is_null as is_null_of, meet as meet_of, points_live as points_live_of, atom_holds as atom_holds_of, fits_value as fits_value_of, fits_argument as fits_argument_of, some_holds as some_holds_of, requires_hold as requires_hold_of, ensures_hold as ensures_hold_of, holds_of, holds_of_both, same_bool, pointer_value as pointer_value_of, of_spot, text_length as text_length_of, spot as spot_of, fits_content as fits_content_of, global_fits as global_fits_of, fits_body as fits_body_of, live_body as live_body_of};
+ghost use Rattle.cv_meaning.specs.Contract as spec;
 ghost use Rattle.cv_meaning.specs.Memory.{first_zero as first_zero_of};
 ghost use Rattle.cv_meaning.specs.Look.{look};
 ghost use Rattle.cv_meaning.specs.Parts.{part_holds};
@@ -24,7 +24,7 @@ pub enum Part {
 
 /// The value of one part of a sum, without its sign.
 fn factor_value(number: Option<u32>, term: &Option<Term>, v: &View) -> Option<i128>
-    ensures value { result ≡ factor_value_of (scene v.entry.now) number term.now }
+    ensures value { result ≡ spec.factor_value (scene v.entry.now) number term.now }
     ensures small { IfSome result (λ z. unsigned_abs z ≤ 2 ^ 95) }
 {
     match (number, term) {
@@ -38,7 +38,7 @@ fn factor_value(number: Option<u32>, term: &Option<Term>, v: &View) -> Option<i1
 /// The value of a sum; None exactly where a term is undefined.
 fn lin_value(parts: &[LinPart], v: &View) -> Option<i128>
     requires { length parts.now ≤ 12 }
-    ensures value { result ≡ lin_value_of (scene v.entry.now) parts.now }
+    ensures value { result ≡ spec.lin_value (scene v.entry.now) parts.now }
     ensures small { IfSome result (λ z. unsigned_abs z ≤ length parts.now * 2 ^ 95) }
 {
     match parts {
@@ -56,7 +56,7 @@ fn lin_value(parts: &[LinPart], v: &View) -> Option<i128>
 }
 
 fn compare(r: Rel, a: i128, b: i128) -> bool
-    ensures { result ≡ compare_of r a b }
+    ensures { result ≡ spec.compare r a b }
 {
     match r {
         Rel::Eq => a == b,
@@ -69,7 +69,7 @@ fn compare(r: Rel, a: i128, b: i128) -> bool
 }
 
 fn is_null(p: Ptr) -> bool
-    ensures { result ≡ is_null_of p }
+    ensures { result ≡ spec.is_null p }
 {
     match p {
         Ptr::Null => true,
@@ -80,7 +80,7 @@ fn is_null(p: Ptr) -> bool
 
 /// Whether both point to one object.
 fn meet(p: Ptr, q: Ptr) -> bool
-    ensures { result ≡ meet_of p q }
+    ensures { result ≡ spec.meet p q }
 {
     match (p, q) {
         (Ptr::At { object: o, .. }, Ptr::At { object: u, .. }) => o == u,
@@ -89,7 +89,7 @@ fn meet(p: Ptr, q: Ptr) -> bool
 }
 
 fn points_live(m: &Mem, p: Ptr) -> bool
-    ensures { result ≡ points_live_of m.now p }
+    ensures { result ≡ spec.points_live m.now p }
 {
     match p {
         Ptr::At { object, .. } => m.live(object),
@@ -99,7 +99,7 @@ fn points_live(m: &Mem, p: Ptr) -> bool
 }
 
 fn null_holds(v: &View, p: &PtrTerm, equal: bool) -> bool
-    ensures { result ≡ holds_of (λ x. same_bool equal (is_null_of x)) (pointer_value_of (scene v.entry.now) v.entry.now.now.now p.now) }
+    ensures { result ≡ spec.holds_of (λ x. spec.same_bool equal (spec.is_null x)) (spec.pointer_value (scene v.entry.now) v.entry.now.now.now p.now) }
 {
     match pointer_value(v, v.now, p) {
         None => false,
@@ -111,13 +111,13 @@ fn null_holds(v: &View, p: &PtrTerm, equal: bool) -> bool
 }
 
 fn nullt_holds(v: &View, p: &PtrTerm) -> bool
-    ensures { result ≡ is_some (of_spot (scene v.entry.now) v.entry.now.now.now p.now text_length_of) }
+    ensures { result ≡ is_some (spec.of_spot (scene v.entry.now) v.entry.now.now.now p.now spec.text_length) }
 {
     strlen_of(v, v.now, p).is_some()
 }
 
 fn clear_holds(v: &View, p: &PtrTerm) -> bool
-    ensures { result ≡ holds_of (λ x. holds_of (λ at. nat_le at.offset (first_zero_of at.bytes)) (spot_of v.entry.now.now.now x)) (pointer_value_of (scene v.entry.now) v.entry.now.now.now p.now) }
+    ensures { result ≡ spec.holds_of (λ x. spec.holds_of (λ at. nat_le at.offset (first_zero_of at.bytes)) (spec.spot v.entry.now.now.now x)) (spec.pointer_value (scene v.entry.now) v.entry.now.now.now p.now) }
 {
     match pointer_value(v, v.now, p) {
         None => false,
@@ -129,7 +129,7 @@ fn clear_holds(v: &View, p: &PtrTerm) -> bool
 }
 
 fn fresh_holds(v: &View, p: &PtrTerm) -> bool
-    ensures { result ≡ holds_of (λ x. holds_of (λ at. (at.offset == 0) && nat_le v.entry.now.first at.object) (spot_of v.entry.now.now.now x)) (pointer_value_of (scene v.entry.now) v.entry.now.now.now p.now) }
+    ensures { result ≡ spec.holds_of (λ x. spec.holds_of (λ at. (at.offset == 0) && nat_le v.entry.now.first at.object) (spec.spot v.entry.now.now.now x)) (spec.pointer_value (scene v.entry.now) v.entry.now.now.now p.now) }
 {
     match pointer_value(v, v.now, p) {
         None => false,
@@ -141,7 +141,7 @@ fn fresh_holds(v: &View, p: &PtrTerm) -> bool
 }
 
 fn apart_holds(v: &View, p: &PtrTerm, q: &PtrTerm) -> bool
-    ensures { result ≡ holds_of_both (λ x y. not (meet_of x y)) (pointer_value_of (scene v.entry.now) v.entry.now.now.now p.now) (pointer_value_of (scene v.entry.now) v.entry.now.now.now q.now) }
+    ensures { result ≡ spec.holds_of_both (λ x y. not (spec.meet x y)) (spec.pointer_value (scene v.entry.now) v.entry.now.now.now p.now) (spec.pointer_value (scene v.entry.now) v.entry.now.now.now q.now) }
 {
     match pointer_value(v, v.now, p) {
         None => false,
@@ -153,7 +153,7 @@ fn apart_holds(v: &View, p: &PtrTerm, q: &PtrTerm) -> bool
 }
 
 fn same_base_holds(v: &View, p: &PtrTerm, q: &PtrTerm) -> bool
-    ensures { result ≡ holds_of_both (λ x y. meet_of x y && points_live_of v.entry.now.now.now x) (pointer_value_of (scene v.entry.now) v.entry.now.now.now p.now) (pointer_value_of (scene v.entry.now) v.entry.now.now.now q.now) }
+    ensures { result ≡ spec.holds_of_both (λ x y. spec.meet x y && spec.points_live v.entry.now.now.now x) (spec.pointer_value (scene v.entry.now) v.entry.now.now.now p.now) (spec.pointer_value (scene v.entry.now) v.entry.now.now.now q.now) }
 {
     match pointer_value(v, v.now, p) {
         None => false,
@@ -167,7 +167,7 @@ fn same_base_holds(v: &View, p: &PtrTerm, q: &PtrTerm) -> bool
 fn sums_compare(v: &View, left: &[LinPart], r: Rel, right: &[LinPart]) -> bool
     requires left { length left.now ≤ 12 }
     requires right { length right.now ≤ 12 }
-    ensures { result ≡ holds_of_both (compare_of r) (lin_value_of (scene v.entry.now) left.now) (lin_value_of (scene v.entry.now) right.now) }
+    ensures { result ≡ spec.holds_of_both (spec.compare r) (spec.lin_value (scene v.entry.now) left.now) (spec.lin_value (scene v.entry.now) right.now) }
 {
     match lin_value(left, v) {
         None => false,
@@ -181,7 +181,7 @@ fn sums_compare(v: &View, left: &[LinPart], r: Rel, right: &[LinPart]) -> bool
 /// Whether an atom is true.
 fn atom_holds(v: &View, a: &Atom) -> bool
     requires { HasFewParts a.now }
-    ensures { result ≡ atom_holds_of (scene v.entry.now) a.now }
+    ensures { result ≡ spec.atom_holds (scene v.entry.now) a.now }
 {
     match a {
         Atom::Null { ptr, equal } => null_holds(v, ptr, *equal),
@@ -199,7 +199,7 @@ fn atom_holds(v: &View, a: &Atom) -> bool
 /// Whether all atoms are true.
 fn all_hold(v: &View, atoms: &[Atom]) -> bool
     requires { All HasFewParts atoms.now }
-    ensures { result ≡ list_all (atom_holds_of (scene v.entry.now)) atoms.now }
+    ensures { result ≡ list_all (spec.atom_holds (scene v.entry.now)) atoms.now }
 {
     match atoms {
         [] => true,
@@ -214,7 +214,7 @@ fn all_hold(v: &View, atoms: &[Atom]) -> bool
 /// Whether all atoms of one alternative are true.
 fn any_holds(v: &View, alternatives: &[List<Atom>]) -> bool
     requires { All (All HasFewParts) alternatives.now }
-    ensures { result ≡ list_any (list_all (atom_holds_of (scene v.entry.now))) alternatives.now }
+    ensures { result ≡ list_any (list_all (spec.atom_holds (scene v.entry.now))) alternatives.now }
 {
     match alternatives {
         [] => false,
@@ -228,7 +228,7 @@ fn any_holds(v: &View, alternatives: &[List<Atom>]) -> bool
 
 /// Whether the value is no pointer, or null, or points into a live object.
 fn fits_value(m: &Mem, u: Value) -> bool
-    ensures { result ≡ fits_value_of m.now u }
+    ensures { result ≡ spec.fits_value m.now u }
 {
     match u {
         Value::Int(_) => true,
@@ -239,7 +239,7 @@ fn fits_value(m: &Mem, u: Value) -> bool
 }
 
 fn fits_object(m: &Mem, object: u64, offset: u32) -> bool
-    ensures { result ≡ fits_body_of offset (live_body_of (slice_get m.now object)) }
+    ensures { result ≡ spec.fits_body offset (spec.live_body (slice_get m.now object)) }
 {
     match m.objects.get(object as usize) {
         None => false,
@@ -257,7 +257,7 @@ fn fits_object(m: &Mem, object: u64, offset: u32) -> bool
 }
 
 fn content_fits(m: &Mem, u: Option<Value>) -> bool
-    ensures { result ≡ fits_content_of m.now u }
+    ensures { result ≡ spec.fits_content m.now u }
 {
     match u {
         None => true,
@@ -267,7 +267,7 @@ fn content_fits(m: &Mem, u: Option<Value>) -> bool
 
 /// Whether an argument, and the content of the cell to which it points, fit.
 fn argument_fits(v: &View, x: &[u8]) -> bool
-    ensures { result ≡ fits_argument_of v.entry.now.now.now (look v.entry.now.formals.now x.now) }
+    ensures { result ≡ spec.fits_argument v.entry.now.now.now (look v.entry.now.formals.now x.now) }
 {
     let u = value_in(v.formals.as_slice(), x);
     let held = content(v.now, u);
@@ -277,7 +277,7 @@ fn argument_fits(v: &View, x: &[u8]) -> bool
 }
 
 fn formals_fit(v: &View, formals: &[NamedValue]) -> bool
-    ensures { result ≡ list_all (λ x. fits_argument_of v.entry.now.now.now (look v.entry.now.formals.now x)) (map (λ n. n.name) formals.now) }
+    ensures { result ≡ list_all (λ x. spec.fits_argument v.entry.now.now.now (look v.entry.now.formals.now x)) (map (λ n. n.name) formals.now) }
 {
     match formals {
         [] => true,
@@ -292,7 +292,7 @@ fn formals_fit(v: &View, formals: &[NamedValue]) -> bool
 /// Whether what the global holds fits.
 #[tactic(auto, unfolding(crate::specs::Contract::global_fits))]
 fn global_fits(v: &View, x: &[u8]) -> bool
-    ensures { result ≡ global_fits_of (scene v.entry.now) x.now }
+    ensures { result ≡ spec.global_fits (scene v.entry.now) x.now }
 {
     match named(v, v.now, x) {
         None => false,
@@ -301,7 +301,7 @@ fn global_fits(v: &View, x: &[u8]) -> bool
 }
 
 fn globals_fit(v: &View, listed: &[Bytes]) -> bool
-    ensures { result ≡ list_all (global_fits_of (scene v.entry.now)) listed.now }
+    ensures { result ≡ list_all (spec.global_fits (scene v.entry.now)) listed.now }
 {
     match listed {
         [] => true,
@@ -316,7 +316,7 @@ fn globals_fit(v: &View, listed: &[Bytes]) -> bool
 /// Whether requires holds, the implied requirement too.
 fn requires_holds(c: &Contract, v: &View) -> bool
     requires { AreFew c.now }
-    ensures { result ≡ requires_hold_of (scene v.entry.now) (map (λ n. n.name) v.entry.now.formals.now) c.now }
+    ensures { result ≡ spec.requires_hold (scene v.entry.now) (map (λ n. n.name) v.entry.now.formals.now) c.now }
 {
     let formals = formals_fit(v, v.formals.as_slice());
     let globals = globals_fit(v, c.listed.as_slice());
@@ -327,7 +327,7 @@ fn requires_holds(c: &Contract, v: &View) -> bool
 /// Whether all atoms of one alternative hold, or there is no clause.
 fn ensures_holds(c: &Contract, v: &View) -> bool
     requires { AreFew c.now }
-    ensures { result ≡ ensures_hold_of (scene v.entry.now) c.now }
+    ensures { result ≡ spec.ensures_hold (scene v.entry.now) c.now }
 {
     let none = c.gives.is_empty();
     let some = any_holds(v, c.gives.as_slice());

@@ -4,7 +4,7 @@ ghost use Rattle.std.specs.Option.{option_and_then};
 ghost use Rattle.cv_core.specs.Names.{place_of};
 ghost use Rattle.cv_meaning.specs.Look.{look};
 ghost use Rattle.cv_meaning.specs.Seen.{scene, seen_spot};
-ghost use Rattle.cv_meaning.specs.Contract.{content as content_of, named as named_of, starred as starred_of, as_pointer as as_pointer_of, as_number as as_number_of, pointer_value as pointer_value_of, spot as spot_of, of_spot, size_left as size_left_of, text_length as text_length_of, term_value as term_value_of};
+ghost use Rattle.cv_meaning.specs.Contract as spec;
 
 use crate::access::zero_in;
 use crate::memory::{Body, NamedValue, Ptr, Value, View};
@@ -30,7 +30,7 @@ fn global_place(globals: &[GlobalDecl], x: &[u8]) -> Option<usize>
 
 /// What the live cell holds to which `w` points.
 pub(crate) fn content(m: &Mem, w: Value) -> Option<Value>
-    ensures { result ≡ content_of m.now w }
+    ensures { result ≡ spec.content m.now w }
 {
     let Value::Ptr(Ptr::At { object, .. }) = w else {
         return None;
@@ -46,7 +46,7 @@ pub(crate) fn content(m: &Mem, w: Value) -> Option<Value>
 }
 
 pub(crate) fn named(v: &View, m: &Mem, x: &[u8]) -> Option<Value>
-    ensures { result ≡ named_of (scene v.entry.now) m.now x.now }
+    ensures { result ≡ spec.named (scene v.entry.now) m.now x.now }
 {
     match global_place(v.globals.as_slice(), x) {
         None => Some(value_in(v.formals.as_slice(), x)),
@@ -67,13 +67,13 @@ pub(crate) fn named(v: &View, m: &Mem, x: &[u8]) -> Option<Value>
 }
 
 fn starred(v: &View, m: &Mem, x: &[u8]) -> Option<Value>
-    ensures { result ≡ starred_of (scene v.entry.now) m.now x.now }
+    ensures { result ≡ spec.starred (scene v.entry.now) m.now x.now }
 {
     content(m, named(v, m, x)?)
 }
 
 fn as_pointer(v: Option<Value>) -> Option<Ptr>
-    ensures { result ≡ option_and_then as_pointer_of v }
+    ensures { result ≡ option_and_then spec.as_pointer v }
 {
     match v {
         Some(Value::Ptr(p)) => Some(p),
@@ -85,7 +85,7 @@ fn as_pointer(v: Option<Value>) -> Option<Ptr>
 /// The pointer that a contract names, memory being read in `m`, and under `pre` at entry.
 #[tactic(auto, using(crate::proofs::Terms::pointer_value_pre))]
 pub(crate) fn pointer_value(v: &View, m: &Mem, t: &PtrTerm) -> Option<Ptr>
-    ensures { result ≡ pointer_value_of (scene v.entry.now) m.now t.now }
+    ensures { result ≡ spec.pointer_value (scene v.entry.now) m.now t.now }
 {
     match t {
         PtrTerm::Name(x) => as_pointer(named(v, m, x.as_slice())),
@@ -105,7 +105,7 @@ pub(crate) struct Borrowed<'a> {
 
 /// The place in a live buffer to which `p` points.
 pub(crate) fn spot(m: &Mem, p: Ptr) -> Option<Borrowed<'_>>
-    ensures value { seen_spot result ≡ spot_of m.now p }
+    ensures value { seen_spot result ≡ spec.spot m.now p }
     ensures short { IfSome result (λ at. length at.bytes.now < 2 ^ 31) }
 {
     let Ptr::At { object, offset } = p else {
@@ -148,7 +148,7 @@ fn text_length(offset: u32, bytes: &[u8]) -> Option<i64>
 }
 
 fn as_number(v: Option<Value>) -> Option<i64>
-    ensures { result ≡ option_and_then as_number_of v }
+    ensures { result ≡ option_and_then spec.as_number v }
 {
     match v {
         Some(Value::Int(z)) => Some(i64::from(z)),
@@ -159,7 +159,7 @@ fn as_number(v: Option<Value>) -> Option<i64>
 
 /// The place in a live buffer that a contract's pointer names.
 fn named_spot<'a>(v: &View, m: &'a Mem, x: &PtrTerm) -> Option<Borrowed<'a>>
-    ensures value { seen_spot result ≡ option_and_then (spot_of m.now) (pointer_value_of (scene v.entry.now) m.now x.now) }
+    ensures value { seen_spot result ≡ option_and_then (spec.spot m.now) (spec.pointer_value (scene v.entry.now) m.now x.now) }
     ensures short { IfSome result (λ at. length at.bytes.now < 2 ^ 31) }
 {
     spot(m, pointer_value(v, m, x)?)
@@ -168,7 +168,7 @@ fn named_spot<'a>(v: &View, m: &'a Mem, x: &PtrTerm) -> Option<Borrowed<'a>>
 /// The number that a contract's term has, memory being read in `m`, and under `pre` at entry.
 #[tactic(auto, using(crate::proofs::Terms::term_value_pre))]
 pub(crate) fn term_in(v: &View, m: &Mem, t: &Term) -> Option<i64>
-    ensures { result ≡ term_value_of (scene v.entry.now) m.now t.now }
+    ensures { result ≡ spec.term_value (scene v.entry.now) m.now t.now }
 {
     match t {
         Term::Name(x) => as_number(named(v, m, x.as_slice())),
@@ -182,21 +182,21 @@ pub(crate) fn term_in(v: &View, m: &Mem, t: &Term) -> Option<i64>
 }
 
 fn alloc_of(v: &View, m: &Mem, x: &PtrTerm) -> Option<i64>
-    ensures { result ≡ of_spot (scene v.entry.now) m.now x.now size_left_of }
+    ensures { result ≡ spec.of_spot (scene v.entry.now) m.now x.now spec.size_left }
 {
     let at = named_spot(v, m, x)?;
     Some(size_left(at.offset, at.bytes))
 }
 
 fn offset_of(v: &View, m: &Mem, x: &PtrTerm) -> Option<i64>
-    ensures { result ≡ of_spot (scene v.entry.now) m.now x.now (λ at. Some (pos at.offset)) }
+    ensures { result ≡ spec.of_spot (scene v.entry.now) m.now x.now (λ at. Some (pos at.offset)) }
 {
     let at = named_spot(v, m, x)?;
     Some(i64::from(at.offset))
 }
 
 pub(crate) fn strlen_of(v: &View, m: &Mem, x: &PtrTerm) -> Option<i64>
-    ensures { result ≡ of_spot (scene v.entry.now) m.now x.now text_length_of }
+    ensures { result ≡ spec.of_spot (scene v.entry.now) m.now x.now spec.text_length }
 {
     let at = named_spot(v, m, x)?;
     text_length(at.offset, at.bytes)
@@ -205,7 +205,7 @@ pub(crate) fn strlen_of(v: &View, m: &Mem, x: &PtrTerm) -> Option<i64>
 /// The number that a contract's term has; None exactly where it is undefined. Condition: the view has a
 /// value of its kind for each formal, and each object that it names is in `now`.
 pub fn term_value(t: &Term, v: &View) -> Option<i64>
-    ensures { result ≡ term_value_of (scene v.entry.now) v.entry.now.now.now t.now }
+    ensures { result ≡ spec.term_value (scene v.entry.now) v.entry.now.now.now t.now }
 {
     term_in(v, v.now, t)
 }

@@ -1,6 +1,6 @@
 //! A memory: the list of its objects, in the order of making.
 ghost use Rattle.std.specs.Prelude.{◌≡◌, ◌++◌, ◌∷◌, ◌<◌, [], length, IfOk, OnOk, OnErr, IsSome, true};
-ghost use Rattle.cv_meaning.specs.Memory.{IsShort, cell_at, site_at, live as live_at, kill as killed, with_body};
+ghost use Rattle.cv_meaning.specs.Memory as spec;
 ghost use Rattle.cv_meaning.specs.declared.memory.Body.TheVariants.{Cell};
 ghost use Rattle.cv_meaning.specs.declared.memory.Object.{Object};
 
@@ -63,7 +63,7 @@ impl Mem {
     /// Adds one live object at the end and answers its number. After an error, which is want of memory,
     /// the memory is unchanged.
     pub fn make(&mut self, site: u32, body: &Body) -> Result<u64, AllocError>
-        requires { IsShort body.now }
+        requires { spec.IsShort body.now }
         ensures number { IfOk result (λ object. object ≡ length self.old) }
         ensures ok { OnOk result (self.new ≡ self.old ++ record { site = site; live = true; body = body.now } ∷ []) }
         ensures err { OnErr result (self.new ≡ self.old) }
@@ -94,7 +94,7 @@ impl Mem {
 
     /// What the cell holds; None exactly where the object is no cell.
     pub fn get(&self, object: u64) -> Option<Value>
-        ensures { result ≡ cell_at self.now object }
+        ensures { result ≡ spec.cell_at self.now object }
     {
         match &self.objects.get(object as usize)?.body {
             Body::Cell(v) => Some(*v),
@@ -104,8 +104,8 @@ impl Mem {
 
     /// Puts a value into a cell, and changes nothing else.
     pub fn put(&mut self, object: u64, v: Value)
-        requires { IsSome (cell_at self.old object) }
-        ensures { self.new ≡ with_body object (Cell v) self.old }
+        requires { IsSome (spec.cell_at self.old object) }
+        ensures { self.new ≡ spec.with_body object (Cell v) self.old }
     {
         if let Some(x) = self.objects.get_mut(object as usize) {
             x.body = Body::Cell(v);
@@ -114,7 +114,7 @@ impl Mem {
 
     /// Whether it is a live object of the memory.
     pub fn live(&self, object: u64) -> bool
-        ensures { result ≡ live_at self.now object }
+        ensures { result ≡ spec.live self.now object }
     {
         match self.objects.get(object as usize) {
             None => false,
@@ -124,7 +124,7 @@ impl Mem {
 
     /// The site of an object; None exactly where the memory has no such object.
     pub fn site(&self, object: u64) -> Option<u32>
-        ensures { result ≡ site_at self.now object }
+        ensures { result ≡ spec.site_at self.now object }
     {
         Some(self.objects.get(object as usize)?.site)
     }
@@ -132,7 +132,7 @@ impl Mem {
     /// Ends the life of an object, and changes nothing else.
     pub fn kill(&mut self, object: u64)
         requires { object < length self.old }
-        ensures { self.new ≡ killed object self.old }
+        ensures { self.new ≡ spec.kill object self.old }
     {
         self.objects[object as usize].live = false;
     }

@@ -1,6 +1,6 @@
 //! Whether a family is closed under the rules of a program's statements.
 ghost use Rattle.std.specs.Prelude.{◌≡◌, ◌<◌, ◌≤◌, ◌^◌, ◌↔◌, IfErr, IsOk, MatchBool, MatchOption, MatchResult, Some, length, slice_get, ℕ};
-ghost use Rattle.cv_core.specs.Names.{stmts_of as stmts_in};
+ghost use Rattle.cv_core.specs.Names as spec;
 ghost use Rattle.cv_points.specs.Closed.{HoldsAt, HoldsIn, IsClosed, IsFirstOpenAt, capped as capped_of};
 ghost use Rattle.cv_points.specs.Walks.{AreBases, AreStarts};
 
@@ -24,7 +24,7 @@ fn holds_in(
     requires bases { AreBases p.now proc bases }
     requires here { slice_get p.now.procs proc ≡ Some f.now }
     requires among { proc ≤ length p.now.procs }
-    requires there { statement ≤ length (stmts_in f.now.body) }
+    requires there { statement ≤ length (spec.stmts_of f.now.body) }
     ensures { MatchBool result (HoldsIn p.now sets.now proc f.now statement) (HoldsIn p.now sets.now proc f.now statement → ⊥) }
 {
     match missing_in_statement(p, sets, known, proc, bases, f, statement) {

@@ -3,7 +3,7 @@ ghost use Rattle.std.specs.Prelude.{◌≡◌, ◌<◌, ◌≤◌, IfOk, OnOk, O
 ghost use Rattle.std.specs.Option.{option_map};
 ghost use Rattle.cv_core.specs.Names.{stmts_of as stmts_in};
 ghost use Rattle.cv_core.specs.declared.program.Program.{Program as ProgramValue};
-ghost use Rattle.cv_points.specs.Closed.{HoldsAt, HoldsIn, IsClosed, MaybeHolds, StatementHolds, Starts, form_rule as form_rule_of, formal_rule as formal_rule_of, global_rule as global_rule_of};
+ghost use Rattle.cv_points.specs.Closed as spec;
 ghost use Rattle.cv_points.specs.Growing.{AddsRules, AreRules};
 ghost use Rattle.cv_points.specs.Holders.{first_holder as first_holder_of};
 ghost use Rattle.cv_points.specs.Walks.{AreBases, AreStarts, callee_in, word_rule};
@@ -29,7 +29,7 @@ fn fits(rule: &Rule) -> bool
 
 /// Puts a rule behind the others. A number that a word can't hold has no room in memory.
 fn put_rule(rules: &mut Vec<Rule>, rule: Option<Rule>) -> Result<(), AllocError>
-    ensures { OnOk result ((P : ProgramValue) (r : Maybe RuleValue) → rule ≡ option_map word_rule r → AddsRules P rules.old.items rules.new.items (λ S. MaybeHolds P S r)) }
+    ensures { OnOk result ((P : ProgramValue) (r : Maybe RuleValue) → rule ≡ option_map word_rule r → AddsRules P rules.old.items rules.new.items (λ S. spec.MaybeHolds P S r)) }
 {
     match rule {
         None => Ok(()),
@@ -62,7 +62,7 @@ fn put_numbered(
     requires here { slice_get p.now.procs proc ≡ Some f.now }
     requires among { proc ≤ length p.now.procs }
     requires there { statement ≤ length (stmts_in f.now.body) }
-    ensures { OnOk result (AddsRules p.now rules.old.items rules.new.items (λ S. MaybeHolds p.now S (form_rule_of p.now proc f.now statement form.now number))) }
+    ensures { OnOk result (AddsRules p.now rules.old.items rules.new.items (λ S. spec.MaybeHolds p.now S (spec.form_rule p.now proc f.now statement form.now number))) }
 {
     put_rule(
         rules,
@@ -87,7 +87,7 @@ fn put_form(
     requires here { slice_get p.now.procs proc ≡ Some f.now }
     requires among { proc ≤ length p.now.procs }
     requires there { statement ≤ length (stmts_in f.now.body) }
-    ensures { OnOk result (AddsRules p.now rules.old.items rules.new.items (λ S. (n : ℕ) → MaybeHolds p.now S (form_rule_of p.now proc f.now statement form.now n))) }
+    ensures { OnOk result (AddsRules p.now rules.old.items rules.new.items (λ S. (n : ℕ) → spec.MaybeHolds p.now S (spec.form_rule p.now proc f.now statement form.now n))) }
 {
     let callee = callee_of(p, form);
     put_numbered(rules, p, known, proc, bases, f, statement, form, callee, 0)?;
@@ -117,7 +117,7 @@ fn put_formals(
     f: &Proc,
 ) -> Result<(), AllocError>
     requires { AreBases p.now proc bases }
-    ensures { OnOk result (AddsRules p.now rules.old.items rules.new.items (λ S. (n : ℕ) → MaybeHolds p.now S (formal_rule_of (first_holder_of p.now proc) f.now (slice_get f.now.formals n)))) }
+    ensures { OnOk result (AddsRules p.now rules.old.items rules.new.items (λ S. (n : ℕ) → spec.MaybeHolds p.now S (spec.formal_rule (first_holder_of p.now proc) f.now (slice_get f.now.formals n)))) }
 {
     for number in 0..f.formals.len() {
         put_rule(rules, formal_rule(f, bases.first, f.formals.get(number)))?;
@@ -127,7 +127,7 @@ fn put_formals(
 
 /// Puts what the start asks of pointer globals behind the other rules.
 fn put_globals(rules: &mut Vec<Rule>, p: &Program) -> Result<(), AllocError>
-    ensures { OnOk result (AddsRules p.now rules.old.items rules.new.items (λ S. (n : ℕ) → MaybeHolds p.now S (global_rule_of p.now n))) }
+    ensures { OnOk result (AddsRules p.now rules.old.items rules.new.items (λ S. (n : ℕ) → spec.MaybeHolds p.now S (spec.global_rule p.now n))) }
 {
     for number in 0..global_count(p) {
         put_rule(rules, global_rule(p, number))?;
@@ -144,7 +144,7 @@ fn put_start(
     f: &Proc,
 ) -> Result<(), AllocError>
     requires { AreBases p.now proc bases }
-    ensures { OnOk result (AddsRules p.now rules.old.items rules.new.items (λ S. Starts p.now S proc f.now)) }
+    ensures { OnOk result (AddsRules p.now rules.old.items rules.new.items (λ S. spec.Starts p.now S proc f.now)) }
 {
     put_formals(rules, p, proc, bases, f)?;
     put_globals(rules, p)?;
@@ -167,7 +167,7 @@ fn put_statement(
     requires here { slice_get p.now.procs proc ≡ Some f.now }
     requires among { proc ≤ length p.now.procs }
     requires there { statement ≤ length (stmts_in f.now.body) }
-    ensures { OnOk result (AddsRules p.now rules.old.items rules.new.items (λ S. StatementHolds p.now S proc f.now statement form.now)) }
+    ensures { OnOk result (AddsRules p.now rules.old.items rules.new.items (λ S. spec.StatementHolds p.now S proc f.now statement form.now)) }
 {
     put_form(rules, p, known, proc, bases, f, statement, form)?;
     if is_start(f, statement) {
@@ -191,7 +191,7 @@ fn put_at(
     requires here { slice_get p.now.procs proc ≡ Some f.now }
     requires among { proc ≤ length p.now.procs }
     requires there { statement ≤ length (stmts_in f.now.body) }
-    ensures { OnOk result (AddsRules p.now rules.old.items rules.new.items (λ S. HoldsIn p.now S proc f.now statement)) }
+    ensures { OnOk result (AddsRules p.now rules.old.items rules.new.items (λ S. spec.HoldsIn p.now S proc f.now statement)) }
 {
     match statement_at(f, statement) {
         None => Ok(()),
@@ -215,7 +215,7 @@ fn put_proc(
     requires bases { AreBases p.now proc bases }
     requires here { slice_get p.now.procs proc ≡ Some f.now }
     requires among { proc ≤ length p.now.procs }
-    ensures { OnOk result (AddsRules p.now rules.old.items rules.new.items (λ S. (k : ℕ) → HoldsIn p.now S proc f.now k)) }
+    ensures { OnOk result (AddsRules p.now rules.old.items rules.new.items (λ S. (k : ℕ) → spec.HoldsIn p.now S proc f.now k)) }
 {
     for statement in 0..stmts_of(f).len() {
         put_at(rules, p, known, proc, bases, f, statement)?;
@@ -232,7 +232,7 @@ fn put_proc_at(
 ) -> Result<(), AllocError>
     requires known { AreStarts p.now known.now }
     requires among { proc ≤ length p.now.procs }
-    ensures { OnOk result (AddsRules p.now rules.old.items rules.new.items (λ S. (k : ℕ) → HoldsAt p.now S proc k)) }
+    ensures { OnOk result (AddsRules p.now rules.old.items rules.new.items (λ S. (k : ℕ) → spec.HoldsAt p.now S proc k)) }
 {
     match p.procs.get(proc) {
         None => Ok(()),

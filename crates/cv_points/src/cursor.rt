@@ -4,7 +4,7 @@ ghost use Rattle.std.specs.Prelude.{◌≡◌, ◌+◌, ◌≤◌, Some, length,
 ghost use Rattle.std.specs.List.{filter};
 ghost use Rattle.std.specs.Option.{option_map};
 ghost use Rattle.cv_points.specs.Cursors.{IsCursor, IsStep};
-ghost use Rattle.cv_points.specs.Holders.{cell_number as number_of_cell, cell_place as place_of_cell, cells};
+ghost use Rattle.cv_points.specs.Holders as spec;
 ghost use Rattle.cv_points.specs.Walks.{word};
 
 use crate::holders::{first_holder, proc_count};
@@ -82,7 +82,7 @@ fn look_in(p: &Program, f: &Proc, at: Cursor, object: usize) -> Step
 fn number_behind(p: &Program, at: &mut Cursor, object: usize) -> Option<usize>
     requires cursor { IsCursor p.now at.old }
     requires behind { at.old.objects ≤ object }
-    ensures number { result ≡ number_of_cell (cells p.now) object }
+    ensures number { result ≡ spec.cell_number (spec.cells p.now) object }
     ensures cursor { IsCursor p.now at.new }
 {
     while let Some(f) = p.procs.get(at.proc) {
@@ -97,7 +97,7 @@ fn number_behind(p: &Program, at: &mut Cursor, object: usize) -> Option<usize>
 /// How many pointer cells stand before an object, None where it is no pointer cell.
 fn number_from(p: &Program, at: &mut Cursor, object: usize) -> Option<usize>
     requires { IsCursor p.now at.old }
-    ensures number { result ≡ number_of_cell (cells p.now) object }
+    ensures number { result ≡ spec.cell_number (spec.cells p.now) object }
     ensures cursor { IsCursor p.now at.new }
 {
     if at.objects <= object as u128 {
@@ -110,7 +110,7 @@ fn number_from(p: &Program, at: &mut Cursor, object: usize) -> Option<usize>
 /// The place of the set of the pointer cell at a site, None where no pointer cell has it.
 pub(crate) fn cell_place_from(p: &Program, at: &mut Cursor, site: usize) -> Option<usize>
     requires { IsCursor p.now at.old }
-    ensures place { result ≡ option_map word (place_of_cell p.now site) }
+    ensures place { result ≡ option_map word (spec.cell_place p.now site) }
     ensures cursor { IsCursor p.now at.new }
 {
     if site == 0 {

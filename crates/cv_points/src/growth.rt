@@ -1,6 +1,6 @@
 //! The growth of a family by the rules of a program.
 ghost use Rattle.std.specs.Prelude.{◌≡◌, ◌||◌, Contains, IfOk, ℕ};
-ghost use Rattle.cv_points.specs.Closed.{IsSubset, set_at as set_of};
+ghost use Rattle.cv_points.specs.Closed as spec;
 ghost use Rattle.cv_points.specs.Growing.{Grows, IsGrownAt, Keeps, KeepsAll, ReadsCell, WritesCell, place_at};
 ghost use Rattle.cv_points.specs.Least.{IsEmptyFamily};
 
@@ -23,7 +23,7 @@ pub(crate) fn empty_sets(alloc: Global, count: usize) -> Result<Vec<List<u32>>, 
 
 /// The set at a place, empty where there is none.
 pub(crate) fn set_in(sets: &Vec<List<u32>>, place: usize) -> &[u32]
-    ensures { result.now ≡ set_of sets.now.items place }
+    ensures { result.now ≡ spec.set_at sets.now.items place }
 {
     set_at(sets.as_slice(), place)
 }
@@ -51,7 +51,7 @@ fn grown_at(
 
 /// Puts a site into the set at `to`, and says whether it was new there.
 fn add(alloc: Global, sets: &mut Vec<List<u32>>, to: usize, site: usize) -> Result<bool, AllocError>
-    ensures { IfOk result (λ more. Grows sets.old.items sets.new.items more (λ R. Contains (set_of R to) site)) }
+    ensures { IfOk result (λ more. Grows sets.old.items sets.new.items more (λ R. Contains (spec.set_at R to) site)) }
 {
     if site > 4294967295 {
         return Err(AllocError);
@@ -72,7 +72,7 @@ fn include(
     from: usize,
     to: usize,
 ) -> Result<bool, AllocError>
-    ensures { IfOk result (λ more. Grows sets.old.items sets.new.items more (λ R. IsSubset (set_of R from) (set_of R to))) }
+    ensures { IfOk result (λ more. Grows sets.old.items sets.new.items more (λ R. spec.IsSubset (spec.set_at R from) (spec.set_at R to))) }
 {
     match grown_at(alloc, sets, set_in(sets, from), to)? {
         None => Ok(false),
@@ -175,7 +175,7 @@ fn write_cells(
 
 /// A copy of the set at a place.
 fn copied(alloc: Global, sets: &Vec<List<u32>>, place: usize) -> Result<Vec<u32>, AllocError>
-    ensures { IfOk result (λ v. v.items ≡ set_of sets.now.items place) }
+    ensures { IfOk result (λ v. v.items ≡ spec.set_at sets.now.items place) }
 {
     let items = Vec::from_slice(alloc, set_in(sets, place))?;
     Ok(items)

@@ -5,7 +5,7 @@ ghost use Rattle.std.specs.List.{count_by, filter};
 ghost use Rattle.std.specs.Option.{option_map};
 ghost use Rattle.cv_core.specs.Names.{is_pointer_kind as pointer_kind, is_pointer_local as pointer_local, local_site as local_site_of, malloc_site as malloc_site_of, mallocs_in, objects_of, place_of, stmts_of as stmts_in};
 ghost use Rattle.cv_core.specs.declared.program.Program.{Program as ProgramValue};
-ghost use Rattle.cv_points.specs.Holders.{cell_place as place_of_cell, first_holder as first_holder_of, gives_pointer, holder_count as count_of, place_from, pointer_count, result_number as number_of_result, site_of as site_of_name, variable_number as number_of};
+ghost use Rattle.cv_points.specs.Holders as spec;
 ghost use Rattle.cv_points.specs.Walks.{AreBases, AreStarts, malloc_base, word};
 
 use crate::walk::cell_number;
@@ -57,7 +57,7 @@ pub(crate) fn proc_number(procs: &[Proc], name: &[u8]) -> Option<usize>
 
 /// The number of a pointer variable among those of its procedure.
 fn variable_number(f: &Proc, name: &[u8]) -> Option<usize>
-    ensures { result ≡ option_map word (number_of f.now name.now) }
+    ensures { result ≡ option_map word (spec.variable_number f.now name.now) }
 {
     let formals = f.formals.as_slice();
     match formal_number(formals, name) {
@@ -71,7 +71,7 @@ fn variable_number(f: &Proc, name: &[u8]) -> Option<usize>
 
 /// The place of a pointer variable, where `first` is that of the procedure's first holder.
 pub(crate) fn variable_place(f: &Proc, first: usize, name: &[u8]) -> Option<usize>
-    ensures { (start : ℕ) → first ≡ word start → result ≡ option_map word (place_from start (number_of f.now name.now)) }
+    ensures { (start : ℕ) → first ≡ word start → result ≡ option_map word (spec.place_from start (spec.variable_number f.now name.now)) }
 {
     match variable_number(f, name) {
         Some(number) => Some(first.saturating_add(number)),
@@ -80,21 +80,21 @@ pub(crate) fn variable_place(f: &Proc, first: usize, name: &[u8]) -> Option<usiz
 }
 
 fn is_pointer_result(kind: ResultKind) -> bool
-    ensures { result ≡ gives_pointer kind }
+    ensures { result ≡ spec.gives_pointer kind }
 {
     matches!(kind, ResultKind::Ptr)
 }
 
 /// How many pointer variables a procedure has.
 fn pointers(f: &Proc) -> usize
-    ensures { result ≡ word (pointer_count f.now) }
+    ensures { result ≡ word (spec.pointer_count f.now) }
 {
     pointer_formals(f.formals.as_slice()).saturating_add(pointer_locals(locals_of(f)))
 }
 
 /// The place of the pointer result, where `first` is that of the procedure's first holder.
 pub(crate) fn result_place(f: &Proc, first: usize) -> Option<usize>
-    ensures { (start : ℕ) → first ≡ word start → result ≡ option_map word (place_from start (number_of_result f.now)) }
+    ensures { (start : ℕ) → first ≡ word start → result ≡ option_map word (spec.place_from start (spec.result_number f.now)) }
 {
     if is_pointer_result(f.answer) {
         Some(first.saturating_add(pointers(f)))
@@ -105,7 +105,7 @@ pub(crate) fn result_place(f: &Proc, first: usize) -> Option<usize>
 
 /// How many holders a procedure has.
 fn holder_count(f: &Proc) -> usize
-    ensures { result ≡ word (count_of f.now) }
+    ensures { result ≡ word (spec.holder_count f.now) }
 {
     match &f.body {
         None => 0,
@@ -117,7 +117,7 @@ fn holder_count(f: &Proc) -> usize
 /// of the first pointer cell; the greatest number of a word where a word can't hold it. It takes no memory.
 pub fn first_holder(p: &Program, proc: usize) -> usize
     requires { proc ≤ length p.now.procs }
-    ensures { result ≡ word (first_holder_of p.now proc) }
+    ensures { result ≡ word (spec.first_holder p.now proc) }
 {
     let mut total: usize = 0;
     for f in &p.procs.as_slice()[..proc] {
@@ -134,7 +134,7 @@ pub(crate) fn proc_count(p: &Program) -> usize
 
 /// The place of the set of the pointer cell at a site, None where no pointer cell has it.
 pub(crate) fn cell_place(p: &Program, site: usize) -> Option<usize>
-    ensures { result ≡ option_map word (place_of_cell p.now site) }
+    ensures { result ≡ option_map word (spec.cell_place p.now site) }
 {
     if site == 0 {
         return None;
@@ -231,7 +231,7 @@ pub(crate) const KNOWN: usize = 256;
 
 /// The place of the first holder of the procedure of this number; 0 where there is none.
 fn start_or_zero(p: &Program, proc: usize) -> usize
-    ensures { proc < length p.now.procs → result ≡ word (first_holder_of p.now proc) }
+    ensures { proc < length p.now.procs → result ≡ word (spec.first_holder p.now proc) }
 {
     if proc < proc_count(p) {
         first_holder(p, proc)
@@ -255,7 +255,7 @@ pub(crate) fn starts(p: &Program) -> [usize; KNOWN]
 pub(crate) fn start_of(p: &Program, known: &[usize], proc: usize) -> usize
     requires known { AreStarts p.now known.now }
     requires there { proc < length p.now.procs }
-    ensures { result ≡ word (first_holder_of p.now proc) }
+    ensures { result ≡ word (spec.first_holder p.now proc) }
 {
     match known.get(proc) {
         Some(start) => *start,
@@ -266,7 +266,7 @@ pub(crate) fn start_of(p: &Program, known: &[usize], proc: usize) -> usize
 /// The site of the object that a name stands for in a procedure: its own objects, of which the first has the site
 /// `base`, then the globals and literals.
 pub(crate) fn site_of(p: &Program, base: usize, f: &Proc, name: &[u8]) -> Option<usize>
-    ensures { (proc : ℕ) → base ≡ word (local_site_of p.now proc) → result ≡ option_map word (site_of_name p.now proc f.now name.now) }
+    ensures { (proc : ℕ) → base ≡ word (local_site_of p.now proc) → result ≡ option_map word (spec.site_of p.now proc f.now name.now) }
 {
     if let Some(number) = object_place(f, name) {
         return Some(base.saturating_add(number));

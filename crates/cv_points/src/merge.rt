@@ -1,14 +1,14 @@
 //! Ascending sets of sites.
 ghost use Rattle.std.specs.Prelude.{◌≡◌, ◌++◌, IfOk, IsTrue, MatchOption, false, true};
 ghost use Rattle.cv_points.specs.Closed.{IsSubset};
-ghost use Rattle.cv_points.specs.Merge.{above, below, is_merged as is_merged_in, is_next, merge};
+ghost use Rattle.cv_points.specs.Merge as spec;
 
 use cv_core::List;
 use std::alloc::{AllocError, Global};
 
 /// What stands behind a site in a set; None where the set lacks it.
 fn after(set: &[u32], site: u32) -> Option<&[u32]>
-    ensures { MatchOption result (is_next site set.now ≡ false) (λ rest. (is_next site set.now ≡ true) × (rest.now ≡ above site set.now)) }
+    ensures { MatchOption result (spec.is_next site set.now ≡ false) (λ rest. (spec.is_next site set.now ≡ true) × (rest.now ≡ spec.above site set.now)) }
 {
     let mut rest = set;
     while let [s, tail @ ..] = rest {
@@ -22,7 +22,7 @@ fn after(set: &[u32], site: u32) -> Option<&[u32]>
 
 /// Whether each site of `from` is in `to`.
 fn is_merged(from: &[u32], to: &[u32]) -> bool
-    ensures { result ≡ is_merged_in from.now to.now }
+    ensures { result ≡ spec.is_merged from.now to.now }
 {
     let mut left = from;
     let mut right = to;
@@ -45,7 +45,7 @@ pub(crate) fn is_within(from: &[u32], to: &[u32]) -> bool
 
 /// Puts the sites of a set below `site` behind `items`, and gives those above it.
 fn push_below<'a>(items: &mut Vec<u32>, set: &'a [u32], site: u32) -> Result<&'a [u32], AllocError>
-    ensures { IfOk result (λ rest. (items.new.items ≡ items.old.items ++ below site set.now) × (rest.now ≡ above site set.now)) }
+    ensures { IfOk result (λ rest. (items.new.items ≡ items.old.items ++ spec.below site set.now) × (rest.now ≡ spec.above site set.now)) }
 {
     let mut rest = set;
     while let [s, tail @ ..] = rest {
@@ -60,7 +60,7 @@ fn push_below<'a>(items: &mut Vec<u32>, set: &'a [u32], site: u32) -> Result<&'a
 
 /// The union of two sets.
 fn union(alloc: Global, from: &[u32], to: &[u32]) -> Result<List<u32>, AllocError>
-    ensures { IfOk result (λ xs. xs ≡ merge from.now to.now) }
+    ensures { IfOk result (λ xs. xs ≡ spec.merge from.now to.now) }
 {
     let mut items = Vec::new(alloc);
     let mut left = from;
@@ -80,7 +80,7 @@ pub(crate) fn merged(
     from: &[u32],
     to: &[u32],
 ) -> Result<Option<List<u32>>, AllocError>
-    ensures { IfOk result (λ set. MatchOption set (is_merged_in from.now to.now ≡ true) (λ xs. (is_merged_in from.now to.now ≡ false) × (xs ≡ merge from.now to.now))) }
+    ensures { IfOk result (λ set. MatchOption set (spec.is_merged from.now to.now ≡ true) (λ xs. (spec.is_merged from.now to.now ≡ false) × (xs ≡ spec.merge from.now to.now))) }
 {
     if is_merged(from, to) {
         return Ok(None);

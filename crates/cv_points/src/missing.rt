@@ -1,7 +1,7 @@
 //! What a rule asks of a family and the family lacks.
 ghost use Rattle.std.specs.Prelude.{◌≡◌, ◌<◌, ◌^◌, Contains, MatchBool, MatchOption, Option as Maybe, length, ℕ};
 ghost use Rattle.std.specs.Option.{option_map};
-ghost use Rattle.cv_points.specs.Closed.{Holds, IsSubset, MaybeHolds, set_at as set_of};
+ghost use Rattle.cv_points.specs.Closed as spec;
 ghost use Rattle.cv_points.specs.Cursors.{IsCursor};
 ghost use Rattle.cv_points.specs.Missing.{CellRead, CellWritten, IsLacking, LacksFromCell, LacksInCell, LacksRead, LacksWritten, IsMissing, MaybeMissing, ReadsHold, WritesHold};
 ghost use Rattle.cv_points.specs.Walks.{word_rule};
@@ -21,7 +21,7 @@ pub(crate) struct Missing {
 
 /// The set at a place, empty where there is none.
 pub(crate) fn set_at(sets: &[List<u32>], place: usize) -> &[u32]
-    ensures { result.now ≡ set_of sets.now place }
+    ensures { result.now ≡ spec.set_at sets.now place }
 {
     match sets.get(place) {
         None => &[],
@@ -43,15 +43,15 @@ fn has_site(set: &[u32], site: usize) -> bool
 
 /// Whether the set at a place has a site.
 fn has_site_at(sets: &[List<u32>], place: usize, site: usize) -> bool
-    ensures answer { MatchBool result (Contains (set_of sets.now place) site) (Contains (set_of sets.now place) site → ⊥) }
-    ensures small { (s : ℕ) → Contains (set_of sets.now place) s → s < 2 ^ 32 }
+    ensures answer { MatchBool result (Contains (spec.set_at sets.now place) site) (Contains (spec.set_at sets.now place) site → ⊥) }
+    ensures small { (s : ℕ) → Contains (spec.set_at sets.now place) s → s < 2 ^ 32 }
 {
     has_site(set_at(sets, place), site)
 }
 
 /// The first site of `from` that `to` lacks, by a search for each.
 fn first_searched(from: &[u32], to: &[u32]) -> Option<usize>
-    ensures { MatchOption result (IsSubset from.now to.now) (λ s. Contains from.now s × (Contains to.now s → ⊥)) }
+    ensures { MatchOption result (spec.IsSubset from.now to.now) (λ s. Contains from.now s × (Contains to.now s → ⊥)) }
 {
     for s in from {
         let site = *s as usize;
@@ -64,7 +64,7 @@ fn first_searched(from: &[u32], to: &[u32]) -> Option<usize>
 
 /// The first site of `from` that `to` lacks. Where both ascend and `to` lacks none, one walk over both is enough.
 fn first_absent(from: &[u32], to: &[u32]) -> Option<usize>
-    ensures { MatchOption result (IsSubset from.now to.now) (λ s. Contains from.now s × (Contains to.now s → ⊥)) }
+    ensures { MatchOption result (spec.IsSubset from.now to.now) (λ s. Contains from.now s × (Contains to.now s → ⊥)) }
 {
     if is_within(from, to) {
         None
@@ -75,7 +75,7 @@ fn first_absent(from: &[u32], to: &[u32]) -> Option<usize>
 
 /// A site in the set at `from` and not in the one at `to`.
 fn missing_within(sets: &[List<u32>], from: usize, to: usize) -> Option<Missing>
-    ensures { MatchOption result (IsSubset (set_of sets.now from) (set_of sets.now to)) (λ m. (m.to ≡ to) × IsLacking sets.now from to m.site) }
+    ensures { MatchOption result (spec.IsSubset (spec.set_at sets.now from) (spec.set_at sets.now to)) (λ m. (m.to ≡ to) × IsLacking sets.now from to m.site) }
 {
     match first_absent(set_at(sets, from), set_at(sets, to)) {
         None => None,
@@ -151,7 +151,7 @@ fn missing_write(p: &Program, sets: &[List<u32>], from: usize, pointer: usize) -
 
 /// What a rule asks of a family and the family lacks.
 pub(crate) fn missing_by_rule(p: &Program, sets: &[List<u32>], rule: Rule) -> Option<Missing>
-    ensures { (r : RuleValue) → length sets.now < 2 ^ 64 → rule ≡ word_rule r → MatchOption result (Holds p.now sets.now r) (λ m. IsMissing p.now sets.now r m.to m.site) }
+    ensures { (r : RuleValue) → length sets.now < 2 ^ 64 → rule ≡ word_rule r → MatchOption result (spec.Holds p.now sets.now r) (λ m. IsMissing p.now sets.now r m.to m.site) }
 {
     match rule {
         Rule::Has { to, site } => {
@@ -169,7 +169,7 @@ pub(crate) fn missing_by_rule(p: &Program, sets: &[List<u32>], rule: Rule) -> Op
 
 /// What a rule asks of a family and the family lacks, where there is a rule.
 pub(crate) fn missing_by(p: &Program, sets: &[List<u32>], rule: Option<Rule>) -> Option<Missing>
-    ensures { (r : Maybe RuleValue) → length sets.now < 2 ^ 64 → rule ≡ option_map word_rule r → MatchOption result (MaybeHolds p.now sets.now r) (λ m. MaybeMissing p.now sets.now r m.to m.site) }
+    ensures { (r : Maybe RuleValue) → length sets.now < 2 ^ 64 → rule ≡ option_map word_rule r → MatchOption result (spec.MaybeHolds p.now sets.now r) (λ m. MaybeMissing p.now sets.now r m.to m.site) }
 {
     match rule {
         None => None,

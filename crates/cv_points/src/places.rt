@@ -1,7 +1,7 @@
 //! A table that gives for each site the place of the set of its pointer cell.
 ghost use Rattle.std.specs.Prelude.{◌≡◌, ◌++◌, IfOk, OnOk, false, map};
 ghost use Rattle.std.specs.List.{filter, flat_map};
-ghost use Rattle.cv_core.specs.Names.{is_object as object, is_pointer_cell as pointer_cell, is_pointer_global as pointer_global, objects_of};
+ghost use Rattle.cv_core.specs.Names as spec;
 ghost use Rattle.cv_points.specs.Growing.{ArePlaces, numbered};
 ghost use Rattle.cv_points.specs.Holders.{cells, first_holder as first_holder_of};
 
@@ -14,7 +14,7 @@ use std::alloc::{AllocError, Global};
 
 /// Puts behind `flags` for each global whether it is a pointer.
 fn flag_globals(flags: &mut Vec<bool>, globals: &[GlobalDecl]) -> Result<(), AllocError>
-    ensures { OnOk result (flags.new.items ≡ flags.old.items ++ map (λ g. pointer_global g.body) globals.now) }
+    ensures { OnOk result (flags.new.items ≡ flags.old.items ++ map (λ g. spec.is_pointer_global g.body) globals.now) }
 {
     let mut rest = globals;
     while let [global, tail @ ..] = rest {
@@ -38,7 +38,7 @@ fn flag_literals(flags: &mut Vec<bool>, literals: &[Literal]) -> Result<(), Allo
 
 /// Puts behind `flags` for each object among locals whether it is a pointer cell.
 fn flag_locals(flags: &mut Vec<bool>, locals: &[Local]) -> Result<(), AllocError>
-    ensures { OnOk result (flags.new.items ≡ flags.old.items ++ map (λ l. pointer_cell l.body) (filter (λ l. object l.body) locals.now)) }
+    ensures { OnOk result (flags.new.items ≡ flags.old.items ++ map (λ l. spec.is_pointer_cell l.body) (filter (λ l. spec.is_object l.body) locals.now)) }
 {
     let mut rest = locals;
     while let [local, tail @ ..] = rest {
@@ -52,7 +52,7 @@ fn flag_locals(flags: &mut Vec<bool>, locals: &[Local]) -> Result<(), AllocError
 
 /// Puts behind `flags` for each object of a procedure whether it is a pointer cell.
 fn flag_proc(flags: &mut Vec<bool>, f: &Proc) -> Result<(), AllocError>
-    ensures { OnOk result (flags.new.items ≡ flags.old.items ++ map (λ l. pointer_cell l.body) (objects_of f.now)) }
+    ensures { OnOk result (flags.new.items ≡ flags.old.items ++ map (λ l. spec.is_pointer_cell l.body) (spec.objects_of f.now)) }
 {
     flag_locals(flags, locals_of(f))?;
     Ok(())
@@ -60,7 +60,7 @@ fn flag_proc(flags: &mut Vec<bool>, f: &Proc) -> Result<(), AllocError>
 
 /// Puts behind `flags` for each object of procedures whether it is a pointer cell.
 fn flag_procs(flags: &mut Vec<bool>, procs: &[Proc]) -> Result<(), AllocError>
-    ensures { OnOk result (flags.new.items ≡ flags.old.items ++ map (λ l. pointer_cell l.body) (flat_map objects_of procs.now)) }
+    ensures { OnOk result (flags.new.items ≡ flags.old.items ++ map (λ l. spec.is_pointer_cell l.body) (flat_map spec.objects_of procs.now)) }
 {
     let mut rest = procs;
     while let [f, tail @ ..] = rest {

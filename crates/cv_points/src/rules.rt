@@ -2,7 +2,7 @@
 ghost use Rattle.std.specs.Prelude.{◌≡◌, ◌<◌, ◌≤◌, IsTrue, Option, Some, bytes_eq, codes, length, slice_get, ℕ};
 ghost use Rattle.std.specs.Option.{option_copied, option_map};
 ghost use Rattle.cv_core.specs.Names.{local_site as local_site_of, malloc_site as malloc_site_of, place_of, stmts_of as stmts_in};
-ghost use Rattle.cv_points.specs.Closed.{argument_count as argument_count_of, is_text_pointer as text_pointer, argument_rule as argument_rule_of, both, body_rule, call_rule as call_rule_of, called_rule as called_rule_of, numbered_rule as numbered_rule_of, form_rule as form_rule_of, formal_rule as formal_rule_of, global_rule as global_rule_of, operand_place as operand_place_of, plain_rule as plain_rule_of, place_in as place_in_of, procedure_rule as procedure_rule_of, variable_in as variable_of};
+ghost use Rattle.cv_points.specs.Closed as spec;
 ghost use Rattle.cv_points.specs.Holders.{first_holder as first_holder_of, site_of as site_of_name, variable_place as variable_place_of};
 ghost use Rattle.cv_core.specs.declared.program.Program.{Program as ProgramValue};
 ghost use Rattle.cv_points.specs.Walks.{AreBases, AreStarts, callee_in, word, word_rule};
@@ -28,7 +28,7 @@ pub(crate) enum Rule {
 }
 
 fn has(to: Option<usize>, site: Option<usize>) -> Option<Rule>
-    ensures { (t s : Option ℕ) → to ≡ option_map word t → site ≡ option_map word s → result ≡ option_map word_rule (both (λ to s. Rule.Has to s) t s) }
+    ensures { (t s : Option ℕ) → to ≡ option_map word t → site ≡ option_map word s → result ≡ option_map word_rule (spec.both (λ to s. Rule.Has to s) t s) }
 {
     match (to, site) {
         (Some(to), Some(site)) => Some(Rule::Has { to, site }),
@@ -37,7 +37,7 @@ fn has(to: Option<usize>, site: Option<usize>) -> Option<Rule>
 }
 
 fn includes(from: Option<usize>, to: Option<usize>) -> Option<Rule>
-    ensures { (f t : Option ℕ) → from ≡ option_map word f → to ≡ option_map word t → result ≡ option_map word_rule (both (λ from to. Rule.Includes from to) f t) }
+    ensures { (f t : Option ℕ) → from ≡ option_map word f → to ≡ option_map word t → result ≡ option_map word_rule (spec.both (λ from to. Rule.Includes from to) f t) }
 {
     match (from, to) {
         (Some(from), Some(to)) => Some(Rule::Includes { from, to }),
@@ -46,7 +46,7 @@ fn includes(from: Option<usize>, to: Option<usize>) -> Option<Rule>
 }
 
 fn reads(pointer: Option<usize>, to: Option<usize>) -> Option<Rule>
-    ensures { (w t : Option ℕ) → pointer ≡ option_map word w → to ≡ option_map word t → result ≡ option_map word_rule (both (λ w to. Rule.Reads w to) w t) }
+    ensures { (w t : Option ℕ) → pointer ≡ option_map word w → to ≡ option_map word t → result ≡ option_map word_rule (spec.both (λ w to. Rule.Reads w to) w t) }
 {
     match (pointer, to) {
         (Some(pointer), Some(to)) => Some(Rule::Reads { pointer, to }),
@@ -55,7 +55,7 @@ fn reads(pointer: Option<usize>, to: Option<usize>) -> Option<Rule>
 }
 
 fn writes(from: Option<usize>, pointer: Option<usize>) -> Option<Rule>
-    ensures { (f w : Option ℕ) → from ≡ option_map word f → pointer ≡ option_map word w → result ≡ option_map word_rule (both (λ from w. Rule.Writes from w) f w) }
+    ensures { (f w : Option ℕ) → from ≡ option_map word f → pointer ≡ option_map word w → result ≡ option_map word_rule (spec.both (λ from w. Rule.Writes from w) f w) }
 {
     match (from, pointer) {
         (Some(from), Some(pointer)) => Some(Rule::Writes { from, pointer }),
@@ -72,7 +72,7 @@ fn named_place(f: &Proc, first: usize, name: &Bytes) -> Option<usize>
 
 /// The place of the pointer variable that a destination names.
 fn into_place(f: &Proc, first: usize, into: &Option<Bytes>) -> Option<usize>
-    ensures { (start : ℕ) → first ≡ word start → result ≡ option_map word (place_in_of start f.now into.now) }
+    ensures { (start : ℕ) → first ≡ word start → result ≡ option_map word (spec.place_in start f.now into.now) }
 {
     match into {
         Some(name) => named_place(f, first, name),
@@ -82,7 +82,7 @@ fn into_place(f: &Proc, first: usize, into: &Option<Bytes>) -> Option<usize>
 
 /// The place of the pointer variable that an operand is.
 fn operand_place(f: &Proc, first: usize, e: &AnyOperand) -> Option<usize>
-    ensures { (start : ℕ) → first ≡ word start → result ≡ option_map word (operand_place_of start f.now e.now) }
+    ensures { (start : ℕ) → first ≡ word start → result ≡ option_map word (spec.operand_place start f.now e.now) }
 {
     match e {
         AnyOperand::Operand(operand) => match operand {
@@ -102,7 +102,7 @@ fn argument_rule(
     argument: Option<&AnyOperand>,
     formal: Option<&Formal>,
 ) -> Option<Rule>
-    ensures { (a b : ℕ) → first ≡ word a → start ≡ word b → result ≡ option_map word_rule (argument_rule_of a f.now b g.now (option_copied argument.entry) (option_copied formal.entry)) }
+    ensures { (a b : ℕ) → first ≡ word a → start ≡ word b → result ≡ option_map word_rule (spec.argument_rule a f.now b g.now (option_copied argument.entry) (option_copied formal.entry)) }
 {
     match argument {
         None => None,
@@ -126,7 +126,7 @@ fn numbered_rule(
     start: usize,
     number: usize,
 ) -> Option<Rule>
-    ensures { (a b : ℕ) → first ≡ word a → start ≡ word b → result ≡ option_map word_rule (numbered_rule_of a f.now into.now args.now b g.now number) }
+    ensures { (a b : ℕ) → first ≡ word a → start ≡ word b → result ≡ option_map word_rule (spec.numbered_rule a f.now into.now args.now b g.now number) }
 {
     if number == 0 {
         includes(result_place(g, start), into_place(f, first, into))
@@ -154,7 +154,7 @@ fn called_rule(
     number: usize,
 ) -> Option<Rule>
     requires { AreStarts p.now known.now }
-    ensures { (a : ℕ) → first ≡ word a → result ≡ option_map word_rule (called_rule_of p.now a f.now into.now args.now callee (slice_get p.now.procs callee) number) }
+    ensures { (a : ℕ) → first ≡ word a → result ≡ option_map word_rule (spec.called_rule p.now a f.now into.now args.now callee (slice_get p.now.procs callee) number) }
 {
     match p.procs.get(callee) {
         None => None,
@@ -190,7 +190,7 @@ fn procedure_rule(
     number: usize,
 ) -> Option<Rule>
     requires { AreStarts p.now known.now }
-    ensures { (a : ℕ) → first ≡ word a → result ≡ option_map word_rule (procedure_rule_of p.now a f.now into.now args.now callee number) }
+    ensures { (a : ℕ) → first ≡ word a → result ≡ option_map word_rule (spec.procedure_rule p.now a f.now into.now args.now callee number) }
 {
     match callee {
         None => None,
@@ -201,7 +201,7 @@ fn procedure_rule(
 /// The rule of the result of malloc.
 fn malloc_rule(bases: Bases, f: &Proc, statement: usize, into: &Option<Bytes>) -> Option<Rule>
     requires { statement ≤ length (stmts_in f.now.body) }
-    ensures { (p : ProgramValue) (proc : ℕ) → slice_get p.procs proc ≡ Some f.now → AreBases p proc bases → result ≡ option_map word_rule (both (λ to s. Rule.Has to s) (place_in_of (first_holder_of p proc) f.now into.now) (Some (malloc_site_of p proc statement))) }
+    ensures { (p : ProgramValue) (proc : ℕ) → slice_get p.procs proc ≡ Some f.now → AreBases p proc bases → result ≡ option_map word_rule (spec.both (λ to s. Rule.Has to s) (spec.place_in (first_holder_of p proc) f.now into.now) (Some (malloc_site_of p proc statement))) }
 {
     has(
         into_place(f, bases.first, into),
@@ -218,7 +218,7 @@ fn named_site(p: &Program, base: usize, f: &Proc, name: &Bytes) -> Option<usize>
 
 /// The rule of that number of a statement that isn't a call.
 fn plain_rule(p: &Program, bases: Bases, f: &Proc, form: &Form) -> Option<Rule>
-    ensures { (proc : ℕ) → AreBases p.now proc bases → result ≡ option_map word_rule (plain_rule_of p.now proc f.now form.now) }
+    ensures { (proc : ℕ) → AreBases p.now proc bases → result ≡ option_map word_rule (spec.plain_rule p.now proc f.now form.now) }
 {
     let first = bases.first;
     match form {
@@ -277,7 +277,7 @@ pub(crate) fn form_rule(
     requires known { AreStarts p.now known.now }
     requires there { statement ≤ length (stmts_in f.now.body) }
     requires callee { callee ≡ callee_in p.now form.now }
-    ensures { (proc : ℕ) → slice_get p.now.procs proc ≡ Some f.now → AreBases p.now proc bases → result ≡ option_map word_rule (form_rule_of p.now proc f.now statement form.now number) }
+    ensures { (proc : ℕ) → slice_get p.now.procs proc ≡ Some f.now → AreBases p.now proc bases → result ≡ option_map word_rule (spec.form_rule p.now proc f.now statement form.now number) }
 {
     match form {
         Form::Call {
@@ -297,7 +297,7 @@ pub(crate) fn form_rule(
 
 /// How many arguments a statement passes.
 pub(crate) fn argument_count(form: &Form) -> usize
-    ensures { result ≡ argument_count_of form.now }
+    ensures { result ≡ spec.argument_count form.now }
 {
     match form {
         Form::Call { args, .. } => args.len(),
@@ -306,14 +306,14 @@ pub(crate) fn argument_count(form: &Form) -> usize
 }
 
 fn is_text_pointer(kind: VarKind) -> bool
-    ensures { result ≡ text_pointer kind }
+    ensures { result ≡ spec.is_text_pointer kind }
 {
     matches!(kind, VarKind::Ptr)
 }
 
 /// What the start asks of a formal of main.
 pub(crate) fn formal_rule(f: &Proc, first: usize, formal: Option<&Formal>) -> Option<Rule>
-    ensures { (a : ℕ) → first ≡ word a → result ≡ option_map word_rule (formal_rule_of a f.now (option_copied formal.entry)) }
+    ensures { (a : ℕ) → first ≡ word a → result ≡ option_map word_rule (spec.formal_rule a f.now (option_copied formal.entry)) }
 {
     match formal {
         None => None,
@@ -331,7 +331,7 @@ pub(crate) fn formal_rule(f: &Proc, first: usize, formal: Option<&Formal>) -> Op
 pub(crate) fn global_rule(p: &Program, number: usize) -> Option<Rule>
     requires global { number < length p.now.globals }
     requires room { number < usize.MAX }
-    ensures { result ≡ option_map word_rule (global_rule_of p.now number) }
+    ensures { result ≡ option_map word_rule (spec.global_rule p.now number) }
 {
     has(cell_place(p, number + 1), Some(0))
 }

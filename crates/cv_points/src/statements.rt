@@ -2,7 +2,7 @@
 ghost use Rattle.std.specs.Prelude.{◌≡◌, ◌<◌, ◌≤◌, ◌^◌, IsTrue, MatchOption, Some, bytes_eq, codes, length, slice_get, ℕ};
 ghost use Rattle.std.specs.Option.{option_copied};
 ghost use Rattle.cv_core.specs.Names.{stmts_of as stmts_in};
-ghost use Rattle.cv_points.specs.Closed.{HoldsAt, HoldsIn, IsClosed, is_start as is_start_of, MaybeHolds, StatementHolds, Starts, form_rule as form_rule_of, formal_rule as formal_rule_of, global_rule as global_rule_of};
+ghost use Rattle.cv_points.specs.Closed as spec;
 ghost use Rattle.cv_points.specs.Holders.{first_holder as first_holder_of};
 ghost use Rattle.cv_points.specs.Missing.{Lacks};
 ghost use Rattle.cv_points.specs.Walks.{AreBases, AreStarts, callee_in};
@@ -32,7 +32,7 @@ fn missing_by_number(
     requires here { slice_get p.now.procs proc ≡ Some f.now }
     requires among { proc ≤ length p.now.procs }
     requires there { statement ≤ length (stmts_in f.now.body) }
-    ensures { MatchOption result (MaybeHolds p.now sets.now (form_rule_of p.now proc f.now statement form.now number)) (λ m. Lacks sets.now (λ R. MaybeHolds p.now R (form_rule_of p.now proc f.now statement form.now number)) m.to m.site) }
+    ensures { MatchOption result (spec.MaybeHolds p.now sets.now (spec.form_rule p.now proc f.now statement form.now number)) (λ m. Lacks sets.now (λ R. spec.MaybeHolds p.now R (spec.form_rule p.now proc f.now statement form.now number)) m.to m.site) }
 {
     missing_by(
         p,
@@ -58,7 +58,7 @@ fn missing_in_form(
     requires here { slice_get p.now.procs proc ≡ Some f.now }
     requires among { proc ≤ length p.now.procs }
     requires there { statement ≤ length (stmts_in f.now.body) }
-    ensures { MatchOption result ((n : ℕ) → MaybeHolds p.now sets.now (form_rule_of p.now proc f.now statement form.now n)) (λ m. Lacks sets.now (λ R. (n : ℕ) → MaybeHolds p.now R (form_rule_of p.now proc f.now statement form.now n)) m.to m.site) }
+    ensures { MatchOption result ((n : ℕ) → spec.MaybeHolds p.now sets.now (spec.form_rule p.now proc f.now statement form.now n)) (λ m. Lacks sets.now (λ R. (n : ℕ) → spec.MaybeHolds p.now R (spec.form_rule p.now proc f.now statement form.now n)) m.to m.site) }
 {
     let callee = callee_of(p, form);
     match missing_by_number(p, sets, known, proc, bases, f, statement, form, callee, 0) {
@@ -95,7 +95,7 @@ fn missing_in_formals(
 ) -> Option<Missing>
     requires counted { length sets.now < 2 ^ 64 }
     requires bases { AreBases p.now proc bases }
-    ensures { MatchOption result ((n : ℕ) → MaybeHolds p.now sets.now (formal_rule_of (first_holder_of p.now proc) f.now (slice_get f.now.formals n))) (λ m. Lacks sets.now (λ R. (n : ℕ) → MaybeHolds p.now R (formal_rule_of (first_holder_of p.now proc) f.now (slice_get f.now.formals n))) m.to m.site) }
+    ensures { MatchOption result ((n : ℕ) → spec.MaybeHolds p.now sets.now (spec.formal_rule (first_holder_of p.now proc) f.now (slice_get f.now.formals n))) (λ m. Lacks sets.now (λ R. (n : ℕ) → spec.MaybeHolds p.now R (spec.formal_rule (first_holder_of p.now proc) f.now (slice_get f.now.formals n))) m.to m.site) }
 {
     for number in 0..f.formals.len() {
         match missing_by(p, sets, formal_rule(f, bases.first, f.formals.get(number))) {
@@ -115,7 +115,7 @@ pub(crate) fn global_count(p: &Program) -> usize
 /// What the start asks for in the sets of pointer globals.
 fn missing_in_globals(p: &Program, sets: &[List<u32>]) -> Option<Missing>
     requires { length sets.now < 2 ^ 64 }
-    ensures { MatchOption result ((n : ℕ) → MaybeHolds p.now sets.now (global_rule_of p.now n)) (λ m. Lacks sets.now (λ R. (n : ℕ) → MaybeHolds p.now R (global_rule_of p.now n)) m.to m.site) }
+    ensures { MatchOption result ((n : ℕ) → spec.MaybeHolds p.now sets.now (spec.global_rule p.now n)) (λ m. Lacks sets.now (λ R. (n : ℕ) → spec.MaybeHolds p.now R (spec.global_rule p.now n)) m.to m.site) }
 {
     for number in 0..global_count(p) {
         match missing_by(p, sets, global_rule(p, number)) {
@@ -136,7 +136,7 @@ fn missing_at_start(
 ) -> Option<Missing>
     requires counted { length sets.now < 2 ^ 64 }
     requires bases { AreBases p.now proc bases }
-    ensures { MatchOption result (Starts p.now sets.now proc f.now) (λ m. Lacks sets.now (λ R. Starts p.now R proc f.now) m.to m.site) }
+    ensures { MatchOption result (spec.Starts p.now sets.now proc f.now) (λ m. Lacks sets.now (λ R. spec.Starts p.now R proc f.now) m.to m.site) }
 {
     match missing_in_formals(p, sets, proc, bases, f) {
         None => missing_in_globals(p, sets),
@@ -146,7 +146,7 @@ fn missing_at_start(
 
 /// Whether a statement is the first one of main.
 pub(crate) fn is_start(f: &Proc, statement: usize) -> bool
-    ensures { result ≡ is_start_of f.now statement }
+    ensures { result ≡ spec.is_start f.now statement }
 {
     statement == 0 && f.name.as_slice() == b"main".as_slice()
 }
@@ -168,7 +168,7 @@ fn missing_at(
     requires here { slice_get p.now.procs proc ≡ Some f.now }
     requires among { proc ≤ length p.now.procs }
     requires there { statement ≤ length (stmts_in f.now.body) }
-    ensures { MatchOption result (StatementHolds p.now sets.now proc f.now statement form.now) (λ m. Lacks sets.now (λ R. StatementHolds p.now R proc f.now statement form.now) m.to m.site) }
+    ensures { MatchOption result (spec.StatementHolds p.now sets.now proc f.now statement form.now) (λ m. Lacks sets.now (λ R. spec.StatementHolds p.now R proc f.now statement form.now) m.to m.site) }
 {
     match missing_in_form(p, sets, known, proc, bases, f, statement, form) {
         None => {
@@ -208,7 +208,7 @@ pub(crate) fn missing_in_statement(
     requires here { slice_get p.now.procs proc ≡ Some f.now }
     requires among { proc ≤ length p.now.procs }
     requires there { statement ≤ length (stmts_in f.now.body) }
-    ensures { MatchOption result (HoldsIn p.now sets.now proc f.now statement) (λ m. Lacks sets.now (λ R. HoldsIn p.now R proc f.now statement) m.to m.site) }
+    ensures { MatchOption result (spec.HoldsIn p.now sets.now proc f.now statement) (λ m. Lacks sets.now (λ R. spec.HoldsIn p.now R proc f.now statement) m.to m.site) }
 {
     match statement_at(f, statement) {
         None => None,

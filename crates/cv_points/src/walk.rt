@@ -1,7 +1,7 @@
 //! The walk over the objects of a program to one that has a given number.
 ghost use Rattle.std.specs.Prelude.{IfSome, ◌≡◌, ◌+◌, ◌<◌, ◌≤◌, ◌^◌, length, map, Bool, List as Items};
 ghost use Rattle.std.specs.List.{count_by, filter, flat_map};
-ghost use Rattle.cv_core.specs.Names.{is_object as object, is_pointer_cell as pointer_cell, is_pointer_global as pointer_global, locals_of as locals_in, objects_of};
+ghost use Rattle.cv_core.specs.Names as spec;
 ghost use Rattle.cv_points.specs.Holders.{cell_number as number_of_cell, cells, global_cells, object_cells};
 ghost use Rattle.cv_points.specs.Walks.{walk, IsShorter};
 
@@ -20,7 +20,7 @@ pub(crate) enum Walk {
 
 /// Walks over the globals.
 pub(crate) fn walk_globals(globals: &[GlobalDecl], from: usize) -> Walk
-    ensures end { result ≡ walk (map (λ g. pointer_global g.body) globals.now) from 0 }
+    ensures end { result ≡ walk (map (λ g. spec.is_pointer_global g.body) globals.now) from 0 }
     ensures shorter { IsShorter from result }
 {
     let mut rest = globals;
@@ -41,7 +41,7 @@ pub(crate) fn walk_globals(globals: &[GlobalDecl], from: usize) -> Walk
 /// Walks over the objects among the locals of a procedure.
 fn walk_locals(locals: &[Local], from: usize, before: usize) -> Walk
     requires { from + before < 2 ^ 64 }
-    ensures end { result ≡ walk (map (λ l. pointer_cell l.body) (filter (λ l. object l.body) locals.now)) from before }
+    ensures end { result ≡ walk (map (λ l. spec.is_pointer_cell l.body) (filter (λ l. spec.is_object l.body) locals.now)) from before }
     ensures shorter { IsShorter (from + before) result }
 {
     let mut rest = locals;
@@ -64,7 +64,7 @@ fn walk_locals(locals: &[Local], from: usize, before: usize) -> Walk
 /// Walks over the objects of a procedure.
 pub(crate) fn walk_proc(f: &Proc, from: usize, before: usize) -> Walk
     requires { from + before < 2 ^ 64 }
-    ensures end { result ≡ walk (map (λ l. pointer_cell l.body) (objects_of f.now)) from before }
+    ensures end { result ≡ walk (map (λ l. spec.is_pointer_cell l.body) (spec.objects_of f.now)) from before }
     ensures shorter { IsShorter (from + before) result }
 {
     walk_locals(locals_of(f), from, before)
@@ -73,7 +73,7 @@ pub(crate) fn walk_proc(f: &Proc, from: usize, before: usize) -> Walk
 /// Walks over the objects of procedures.
 pub(crate) fn walk_objects(procs: &[Proc], from: usize, before: usize) -> Walk
     requires { from + before < 2 ^ 64 }
-    ensures { result ≡ walk (map (λ l. pointer_cell l.body) (flat_map objects_of procs.now)) from before }
+    ensures { result ≡ walk (map (λ l. spec.is_pointer_cell l.body) (flat_map spec.objects_of procs.now)) from before }
 {
     let mut rest = procs;
     let mut skip = from;

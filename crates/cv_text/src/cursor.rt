@@ -1,7 +1,7 @@
 //! Reading single tokens of a text from a place on.
 
 ghost use Rattle.std.specs.Prelude.{◌≡◌, ◌≤◌, ◌<◌, ◌^◌, ◌+◌, min, IfOk, pos, neg_ℤ};
-ghost use Rattle.cv_text.specs.Tokens.{value_of, digits as digits_token};
+ghost use Rattle.cv_text.specs.Tokens as spec;
 ghost use Rattle.cv_text.specs.Reader as reader;
 ghost use Rattle.cv_text.specs.Given.{Gives, from};
 ghost use Rattle.cv_text.specs.declared.cursor.ReadError.TheVariants.{Memory};
@@ -87,7 +87,7 @@ const WIDE: u64 = 4294967296;
 
 /// The value of digits, or 2^32 where it is more.
 fn value_up_to_wide(digits: &[u8]) -> u64
-    ensures { result ≡ min (value_of digits.now) (2 ^ 32) }
+    ensures { result ≡ min (spec.value_of digits.now) (2 ^ 32) }
 {
     let mut value = 0;
     for digit in digits {
@@ -98,7 +98,7 @@ fn value_up_to_wide(digits: &[u8]) -> u64
 
 /// The value of digits, where it is from `low` up to below `high`.
 pub(crate) fn value_within(digits: &[u8], low: u32, high: u32) -> Option<u32>
-    ensures { result ≡ reader.within low high (digits_token digits.now) }
+    ensures { result ≡ reader.within low high (spec.digits digits.now) }
 {
     let value = value_up_to_wide(digits);
     if u64::from(low) <= value && value < u64::from(high) {

@@ -5,14 +5,14 @@ ghost use Rattle.cv_core.specs.Grammar.{is_digit as digit};
 ghost use Rattle.cv_lex.specs.Given.{OnToken, seen as given};
 ghost use Rattle.cv_text.specs.Lexed.{fault_lexed, lexed, number_lexed, sign_lexed, token_lexed, word_lexed};
 ghost use Rattle.cv_text.specs.Spelling.{sign_text};
-ghost use Rattle.cv_text.specs.Tokens.{is_blank as blank, is_name_byte as name_byte, key_of, name_or, run, sign_at, token_at};
+ghost use Rattle.cv_text.specs.Tokens as spec;
 ghost use Rattle.cv_text.specs.Seen.{seen, IsNext, StandsAt};
 
 use crate::token::{KEYS, Key, SIGNS, Sign, Token, key_bytes, sign_bytes};
 use cv_lex::{LexFault, LexRule, Lexer, TokenKind};
 
 fn sign_at_front(text: &[u8]) -> Option<Sign>
-    ensures first { result ≡ sign_at text.now }
+    ensures first { result ≡ spec.sign_at text.now }
     ensures within { IfSome result (λ s. length (sign_text s) ≤ length text.now) }
 {
     SIGNS
@@ -22,13 +22,13 @@ fn sign_at_front(text: &[u8]) -> Option<Sign>
 }
 
 fn key_named(text: &[u8]) -> Option<Key>
-    ensures { result ≡ key_of text.now }
+    ensures { result ≡ spec.key_of text.now }
 {
     KEYS.iter().copied().find(|key| text == key_bytes(*key))
 }
 
 fn name_or_word(text: &[u8]) -> Token<'_>
-    ensures { seen result ≡ name_or text.now (key_of text.now) }
+    ensures { seen result ≡ spec.name_or text.now (spec.key_of text.now) }
 {
     match key_named(text) {
         Some(key) => Token::Word(key),
@@ -37,7 +37,7 @@ fn name_or_word(text: &[u8]) -> Token<'_>
 }
 
 fn blanks_in_front(text: &[u8]) -> usize
-    ensures { result ≡ run blank text.now }
+    ensures { result ≡ spec.run spec.is_blank text.now }
 {
     text.iter()
         .take_while(|c| matches!(**c, b' ' | b'\t' | b'\n' | b'\r'))
@@ -45,7 +45,7 @@ fn blanks_in_front(text: &[u8]) -> usize
 }
 
 fn name_bytes_in_front(text: &[u8]) -> usize
-    ensures { result ≡ run name_byte text.now }
+    ensures { result ≡ spec.run spec.is_name_byte text.now }
 {
     text.iter()
         .take_while(|c| c.is_ascii_alphanumeric() || **c == b'_' || **c == b'$')
@@ -53,7 +53,7 @@ fn name_bytes_in_front(text: &[u8]) -> usize
 }
 
 fn digits_in_front(text: &[u8]) -> usize
-    ensures { result ≡ run digit text.now }
+    ensures { result ≡ spec.run digit text.now }
 {
     text.iter().take_while(|c| c.is_ascii_digit()).count()
 }
@@ -158,8 +158,8 @@ fn lexed_in_front<'a>(
 /// The token with which a text begins, of which the first byte is no blank, and how many bytes it has.
 fn front(text: &[u8]) -> (Token<'_>, usize)
     requires some { 0 < length text.now }
-    requires no_blank { blank (get_or text.now 0 0) ≡ false }
-    ensures token { (seen result.0, result.1) ≡ token_at (get_or text.now 0 0) text.now }
+    requires no_blank { spec.is_blank (get_or text.now 0 0) ≡ false }
+    ensures token { (seen result.0, result.1) ≡ spec.token_at (get_or text.now 0 0) text.now }
     ensures within { result.1 ≤ length text.now }
 {
     let mut lexer = Lexer::new(lexed_part(text));
